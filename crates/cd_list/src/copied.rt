@@ -1,7 +1,7 @@
 //! Copies and equality of values, generic over lists, options and pairs.
 #![tactic(auto)]
 
-ghost use Rattle.std.specs.Prelude.{◌≡◌, ◌↔◌, IsTrue, IfOk};
+ghost use Rattle.std.specs.Prelude.{◌≡◌, ◌↔◌, ◌++◌, List, IsTrue, IfOk, IfSome, IfNone};
 
 use crate::Sequence;
 use std::alloc::{AllocError, Global};
@@ -121,17 +121,37 @@ impl Equals for bool {
 
 impl<T: Equals> Equals for Sequence<T> {
     fn equals(&self, other: &Sequence<T>) -> bool {
-        if self.len() != other.len() {
+        same_items(self.as_slice(), other.as_slice())
+    }
+}
+
+/// Whether two slices have equal items in the same order. No memory is taken.
+pub fn same_items<T: Equals>(left: &[T], right: &[T]) -> bool
+    ensures { IsTrue result ↔ (left.now ≡ right.now) }
+{
+    if left.len() != right.len() {
+        return false;
+    }
+    for i in 0..left.len() {
+        if !left[i].equals(&right[i]) {
             return false;
         }
-        let others = other.as_slice();
-        let mut i: usize = 0;
-        for item in self.as_slice() {
-            if !item.equals(&others[i]) {
-                return false;
-            }
-            i += 1;
-        }
-        true
+    }
+    true
+}
+
+/// The items behind `front`, where `items` begins with it. No memory is taken.
+pub fn strip_items<'a, T: Equals>(items: &'a [T], front: &[T]) -> Option<&'a [T]>
+    ensures some { IfSome result (λ rest. items.entry.now ≡ front.now ++ rest.now) }
+    ensures none { IfNone result ((rest : List T) → items.entry.now ≡ front.now ++ rest → ⊥) }
+{
+    if items.len() < front.len() {
+        return None;
+    }
+    let (head, rest) = items.split_at(front.len());
+    if same_items(head, front) {
+        Some(rest)
+    } else {
+        None
     }
 }

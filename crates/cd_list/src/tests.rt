@@ -1,5 +1,5 @@
 //! That each call which can answer want of memory succeeds where there is memory, and what it then gives.
-use crate::{Copied, Equals, Sequence, Text};
+use crate::{Copied, Equals, Queue, Sequence, Text};
 use std::test::Fail;
 
 #[test]
@@ -56,5 +56,18 @@ fn texts_grow_and_are_ordered(rt: HostRuntime) -> Result<(), Fail> {
     assert_eq!(rt; text.as_str(), "abcde");
     assert!(rt; Text::of_ascii(alloc, b"abc".as_slice())? < text);
     assert!(rt; text.copy(alloc)?.equals(&text));
+    Ok(())
+}
+
+#[test]
+fn queues_are_taken_from_at_the_front(rt: HostRuntime) -> Result<(), Fail> {
+    let mut queue: Queue<u16> = Queue::new(rt.alloc());
+    queue.push_back(2)?;
+    queue.push_back(3)?;
+    assert_eq!(rt; queue.get(1).copied(), Some(3));
+    assert_eq!(rt; queue.pop_front(), Some(2));
+    assert_eq!(rt; queue.pop_front(), Some(3));
+    assert_eq!(rt; queue.pop_front(), None);
+    assert!(rt; queue.is_empty());
     Ok(())
 }

@@ -1,0 +1,2 @@
+pub mod Complementary
+pub mod Soundness
