@@ -1,0 +1,35 @@
+-- What one clause concludes alone, and two together.
+use Rattle.std.specs.Prelude.{◌≡◌, ◌⊎◌, ℕ, List, [], ◌∷◌, ◌++◌, length, remove, slice_get}
+use Rattle.std.specs.List.{range_with_len}
+use Rattle.cd_clause.specs.declared.Clause.{Clause}
+use Rattle.cd_steps.specs.declared.Name.{Name}
+use Rattle.cd_steps.specs.declared.Step.TheVariants.{Resolve}
+use Rattle.cd_steps.specs.Steps.{AreComplementary}
+use Rattle.cd_infer.specs.declared.Conclusion.{Conclusion}
+use Rattle.cd_infer.specs.Gathered.{Gathered}
+use Rattle.cd_infer.specs.Eligible.{IsEligible}
+
+-- literal i of a and literal j of b are eligible in their clauses, and complementary
+pub record IsResolvable (a : Clause) (i : ℕ) (b : Clause) (j : ℕ) : Type 0 where
+  pub complementary : AreComplementary (slice_get a.literals i) (slice_get b.literals j)
+  pub in_first : IsEligible a i
+  pub in_second : IsEligible b j
+
+abbrev pub resolvent : Name → Clause → ℕ → Name → Clause → ℕ → Conclusion
+resolvent a_name a i b_name b j = record { step = Resolve a_name i b_name j []; clause = record { literals = remove a.literals i ++ remove b.literals j } }
+
+-- two places give their resolvent, or nothing
+abbrev pub ResolvesAt : Name → Clause → Name → Clause → ℕ → ℕ → List Conclusion → Type 0
+ResolvesAt a_name a b_name b i j part = (IsResolvable a i b j × (part ≡ resolvent a_name a i b_name b j ∷ [])) ⊎ ((IsResolvable a i b j → ⊥) × (part ≡ []))
+
+abbrev pub ResolvesFrom : Name → Clause → Name → Clause → ℕ → List Conclusion → Type 0
+ResolvesFrom a_name a b_name b i part = Gathered (ResolvesAt a_name a b_name b i) (range_with_len 0 (length b.literals)) part
+
+-- the conclusions of two clauses, by the place in the first and then by the place in the second: what a positive literal of the
+-- first gives with a negative one of the second
+abbrev pub PairConcludes : Name → Clause → Name → Clause → List Conclusion → Type 0
+PairConcludes a_name a b_name b found = Gathered (ResolvesFrom a_name a b_name b) (range_with_len 0 (length a.literals)) found
+
+-- the conclusions of one clause alone: so far there are none
+abbrev pub SoloConcludes : Name → Clause → List Conclusion → Type 0
+SoloConcludes name c found = found ≡ []

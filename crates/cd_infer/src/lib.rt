@@ -1,0 +1,137 @@
+//! What clauses conclude: all conclusions of one clause, or of two, in their order.
+//!
+//! Only eligible literals are resolved upon, those of a clause than which none of its literals is greater
+//! (ordered resolution; Bachmair and Ganzinger, Resolution theorem proving, Handbook of Automated Reasoning,
+//! 2001).
+#![tactic(auto)]
+
+ghost use Rattle.std.specs.Prelude.{◌≡◌, ◌↔◌, ◌<◌, ◌++◌, List, length, IsTrue, IfOk, OnOk};
+ghost use Rattle.std.specs.List.{list_any};
+ghost use Rattle.cd_infer.specs.Eligible.{literal_greater, atom_greater, IsEligible};
+ghost use Rattle.cd_infer.specs.Conclusions.{IsResolvable, ResolvesAt, ResolvesFrom, PairConcludes, SoloConcludes};
+ghost use Rattle.cd_infer.specs.declared.Conclusion.{Conclusion};
+
+use cd_clause::{Atom, Clause, Literal, join};
+use cd_list::Sequence;
+use cd_steps::{Name, Step, are_complementary};
+use std::alloc::{AllocError, Global};
+
+/// A step that the peers haven't recorded yet, and the clause that it gives.
+#[derive(Drop)]
+pub struct Conclusion {
+    pub step: Step,
+    pub clause: Clause,
+}
+
+pub type Conclusions = Sequence<Conclusion>;
+
+/// Whether literal `l` is greater than literal `m`: by their atoms, and where these are equal the negative
+/// literal is the greater one. No memory is taken.
+pub fn literal_greater(l: &Literal, m: &Literal) -> bool
+    ensures { result ≡ literal_greater l.now m.now }
+{
+    let (Atom::Pred(left), Atom::Pred(right)) = (&l.atom, &m.atom);
+    *right < *left || (*left == *right && (!l.positive && m.positive))
+}
+
+/// Whether no literal of the clause is greater than literal `i`. No memory is taken.
+pub fn is_eligible(c: &Clause, i: usize) -> bool
+    ensures { IsTrue result ↔ IsEligible c.now i }
+{
+    match c.literals.get(i) {
+        Some(literal) => !any_greater(c.literals.as_slice(), literal),
+        None => false,
+    }
+}
+
+fn any_greater(literals: &[Literal], literal: &Literal) -> bool
+    ensures { result ≡ list_any (λ m. literal_greater m literal.now) literals.now }
+{
+    literals.iter().any(|m| literal_greater(m, literal))
+}
+
+/// The conclusions of one clause alone.
+pub fn solo(alloc: Global, _name: Name, _c: &Clause) -> Result<Conclusions, AllocError>
+    ensures { IfOk result (λ found. SoloConcludes _name _c.now found) }
+{
+    Ok(Sequence::new(alloc))
+}
+
+/// The resolvents of a positive literal of `a` and a negative one of `b`, by the place in `a` and then by
+/// the place in `b`.
+pub fn pair(
+    alloc: Global,
+    a_name: Name,
+    a: &Clause,
+    b_name: Name,
+    b: &Clause,
+) -> Result<Conclusions, AllocError>
+    requires a_short { length a.now.literals < 65536 }
+    requires b_short { length b.now.literals < 65536 }
+    ensures { IfOk result (λ found. PairConcludes a_name a.now b_name b.now found) }
+{
+    let mut found = Sequence::new(alloc);
+    for i in 0..a.literals.len() {
+        found.append(resolve_from(alloc, a_name, a, i, b_name, b)?)?;
+    }
+    Ok(found)
+}
+
+fn resolve_from(
+    alloc: Global,
+    a_name: Name,
+    a: &Clause,
+    i: usize,
+    b_name: Name,
+    b: &Clause,
+) -> Result<Conclusions, AllocError>
+    requires in_a { i < length a.now.literals }
+    requires a_short { length a.now.literals < 65536 }
+    requires b_short { length b.now.literals < 65536 }
+    ensures { IfOk result (λ found. ResolvesFrom a_name a.now b_name b.now i found) }
+{
+    let mut found = Sequence::new(alloc);
+    for j in 0..b.literals.len() {
+        found.append(resolve_at(alloc, a_name, a, i, b_name, b, j)?)?;
+    }
+    Ok(found)
+}
+
+fn resolve_at(
+    alloc: Global,
+    a_name: Name,
+    a: &Clause,
+    i: usize,
+    b_name: Name,
+    b: &Clause,
+    j: usize,
+) -> Result<Conclusions, AllocError>
+    requires in_a { i < length a.now.literals }
+    requires in_b { j < length b.now.literals }
+    requires a_short { length a.now.literals < 65536 }
+    requires b_short { length b.now.literals < 65536 }
+    ensures { IfOk result (λ part. ResolvesAt a_name a.now b_name b.now i j part) }
+{
+    let mut part = Sequence::new(alloc);
+    if is_resolvable(a, i, b, j) {
+        let (i, j) = (i as u16, j as u16);
+        let clause = join(alloc, a, i, b, j)?;
+        let step = Step::Resolve {
+            pos: a_name,
+            i,
+            neg: b_name,
+            j,
+            subst: Sequence::new(alloc),
+        };
+        part.push(Conclusion { step, clause })?;
+    }
+    Ok(part)
+}
+
+fn is_resolvable(a: &Clause, i: usize, b: &Clause, j: usize) -> bool
+    ensures { IsTrue result ↔ IsResolvable a.now i b.now j }
+{
+    are_complementary(a.literals.get(i), b.literals.get(j))
+        && is_eligible(a, i)
+        && is_eligible(b, j)
+}
