@@ -1,0 +1,4 @@
+pub mod Outside
+pub mod Page
+pub mod Sent
+pub mod Shelf
