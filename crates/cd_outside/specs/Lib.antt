@@ -1,3 +1,4 @@
+pub mod Folder
 pub mod Outside
 pub mod Page
 pub mod Sent

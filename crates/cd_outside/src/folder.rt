@@ -1,5 +1,7 @@
 //! Files of the machine.
-ghost use Rattle.std.specs.Prelude.{◌≡◌, ◌+◌, ◌≤◌, ◌++◌, None, List, ℕ, length};
+ghost use Rattle.std.specs.Prelude.{◌≡◌, ◌+◌, ◌≤◌, ◌++◌, [], None, List, ℕ, length, OnOk, OnErr, IsErrOf};
+ghost use Rattle.cd_outside.specs.Outside.{Rose, Fetches, Gives};
+ghost use Rattle.cd_outside.specs.Folder.{faults_after};
 
 use crate::{Bytes, FetchFault, Library};
 use cd_list::Text;
@@ -38,8 +40,16 @@ impl<'a, R: Files> Library for Folder<'a, R> {
 
     ghost told = { λ _. None };
 
-    /// No more than `cap` bytes are read.
-    fn fetch(&mut self, path: &Text, cap: u64, into: &mut Bytes) -> Result<(), FetchFault> {
+    /// No more than `cap` bytes are read. A file that can't be opened or read is a fault.
+    fn fetch(&mut self, path: &Text, cap: u64, into: &mut Bytes) -> Result<(), FetchFault>
+        ensures later { self.old ≤ self.new }
+        ensures failed { IsErrOf result FetchFault.Failed → Rose self.old self.new }
+        ensures gives { OnOk result (Fetches None None path.now cap into.old into.new) }
+        ensures nothing { OnErr result (Gives {X = List ℕ × List ℕ} None None []) }
+        ensures unchanged { OnErr result (into.new ≡ into.old) }
+
+        ensures exact { self.new ≡ faults_after self.old result }
+    {
         let before = into.len();
         match read_front(self.rt, path, cap, into) {
             Ok(()) => Ok(()),
@@ -60,12 +70,7 @@ impl<'a, R: Files> Library for Folder<'a, R> {
 const CHUNK: usize = 8192;
 
 /// Appends the first `cap` bytes of the file. On an error some of them may have been appended.
-fn read_front<R: Files>(
-    rt: &R,
-    path: &Text,
-    cap: u64,
-    into: &mut Bytes,
-) -> Result<(), FetchFault>
+fn read_front<R: Files>(rt: &R, path: &Text, cap: u64, into: &mut Bytes) -> Result<(), FetchFault>
     ensures { (more : List ℕ) × (into.new ≡ into.old ++ more) × (length more ≤ cap) }
 {
     let Ok(mut file) = fs::open(rt, path.as_str()) else {

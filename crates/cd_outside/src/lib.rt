@@ -22,3 +22,6 @@ pub use page::{Fails, Page};
 pub use shelf::{Calls, Shelf, Shelved};
 pub use sink::{Sink, SinkFailed};
 pub use standard::Standard;
+
+#[cfg(test)]
+mod tests;

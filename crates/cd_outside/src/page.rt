@@ -77,13 +77,7 @@ fn shorten(share: Option<u64>, length: usize, left: usize) -> Option<usize>
 {
     match share {
         Some(share) => Some((share as usize).min(length).min(left)),
-        None => {
-            if length <= left {
-                None
-            } else {
-                Some(0)
-            }
-        }
+        None => { if length <= left { None } else { Some(0) } }
     }
 }
 

@@ -117,8 +117,8 @@ impl Library for Shelf {
         ensures exact { MatchOption (front_of self.old path.now cap)
             (IsErrOf result FetchFault.Failed × (self.new ≡ faulted self.old))
             (λ front. MatchResult result
-                (λ _. (into.new ≡ into.old ++ front) × (self.new ≡ gave self.old path.now front))
-                (λ fault. (fault ≡ FetchFault.Memory) × (self.new ≡ called self.old))) }
+            (λ _. (into.new ≡ into.old ++ front) × (self.new ≡ gave self.old path.now front))
+            (λ fault. (fault ≡ FetchFault.Memory) × (self.new ≡ called self.old))) }
     {
         let fails = self.fails.as_slice().contains(&self.calls);
         self.calls = self.calls.saturating_add(1);

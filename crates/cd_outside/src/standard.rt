@@ -1,7 +1,7 @@
 //! Writers of the machine as sinks.
-ghost use Rattle.std.specs.Prelude.{◌≡◌, OnOk, OnErr};
+ghost use Rattle.std.specs.Prelude.{◌≡◌, OnOk, OnErr, is_ok, if◌then◌else◌};
 ghost use Rattle.std.specs.Io.KnownBytes.{Appends};
-ghost use Rattle.cd_outside.specs.Outside.{AppendsFront};
+ghost use Rattle.cd_outside.specs.Outside.{counted, HasCause, AppendsFront};
 
 use crate::{Sink, SinkFailed};
 use std::io::Write;
@@ -38,12 +38,20 @@ impl<W: Write> Sink for Standard<W> {
     ghost taken = { λ it. it.taken };
 
     /// A writer that takes nothing of a piece that isn't empty has failed.
-    fn write(&mut self, piece: &[u8]) -> Result<(), SinkFailed> {
-        let sent = write_all(&mut self.inner, piece);
-        if sent.is_err() {
-            self.faults = self.faults.saturating_add(1);
+    fn write(&mut self, piece: &[u8]) -> Result<(), SinkFailed>
+        ensures cause { HasCause self.old.faults self.new.faults result }
+        ensures whole { OnOk result (Appends self.old.taken self.new.taken piece.now) }
+        ensures front { OnErr result (AppendsFront self.old.taken self.new.taken piece.now) }
+
+        ensures exact { self.new.faults ≡ (if is_ok result then self.old.faults else counted self.old.faults) }
+    {
+        match write_all(&mut self.inner, piece) {
+            Ok(()) => Ok(()),
+            Err(fault) => {
+                self.faults = self.faults.saturating_add(1);
+                Err(fault)
+            }
         }
-        sent
     }
 }
 
