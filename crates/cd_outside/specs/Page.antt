@@ -1,5 +1,5 @@
 -- A page: a sink in memory with a bound on its bytes, whose calls fail as a list says.
-use Rattle.std.specs.Prelude.{◌≡◌, ℕ, ◌-◌, min, List, [], ◌∷◌, ◌++◌, length, Option, None, Some, ◌==◌, if◌then◌else◌, nat_le}
+use Rattle.std.specs.Prelude.{ℕ, ◌-◌, min, List, [], ◌∷◌, ◌++◌, length, Option, None, Some, ◌==◌, if◌then◌else◌, nat_le}
 use Rattle.cd_outside.specs.Outside.{counted}
 
 pub record PageState : Type 0 where

@@ -1,5 +1,5 @@
 //! Files of the machine.
-ghost use Rattle.std.specs.Prelude.{◌≡◌, ◌+◌, ◌≤◌, ◌++◌, [], None, List, ℕ, length, OnOk, OnErr, IsErrOf};
+ghost use Rattle.std.specs.Prelude.{◌≡◌, ◌+◌, ◌≤◌, ◌++◌, [], None, List, ℕ, length, take, OnOk, OnErr, IfSome, IsErrOf};
 ghost use Rattle.cd_outside.specs.Outside.{Rose, Fetches, Gives};
 ghost use Rattle.cd_outside.specs.Folder.{faults_after};
 
@@ -51,7 +51,7 @@ impl<'a, R: Files> Library for Folder<'a, R> {
         ensures exact { self.new ≡ faults_after self.old result }
     {
         let before = into.len();
-        match read_front(self.rt, path, cap, into) {
+        match read_file(self.rt, path, cap, into) {
             Ok(()) => Ok(()),
             Err(FetchFault::Failed) => {
                 into.truncate(before);
@@ -66,24 +66,33 @@ impl<'a, R: Files> Library for Folder<'a, R> {
     }
 }
 
+/// Appends the first `cap` bytes of the file. On an error some of them may have been appended.
+fn read_file<R: Files>(rt: &R, path: &Text, cap: u64, into: &mut Bytes) -> Result<(), FetchFault>
+    ensures { (more : List ℕ) × (into.new ≡ into.old ++ more) × (length more ≤ cap) }
+{
+    match fs::open(rt, path.as_str()) {
+        Ok(mut file) => read_front(&mut file, cap, into),
+        Err(_) => Err(FetchFault::Failed),
+    }
+}
+
 /// How many bytes one read asks for at most.
 const CHUNK: usize = 8192;
 
-/// Appends the first `cap` bytes of the file. On an error some of them may have been appended.
-fn read_front<R: Files>(rt: &R, path: &Text, cap: u64, into: &mut Bytes) -> Result<(), FetchFault>
-    ensures { (more : List ℕ) × (into.new ≡ into.old ++ more) × (length more ≤ cap) }
+/// Appends the first `cap` bytes that the file has left. On an error some of them may have been appended.
+fn read_front<F: Read>(file: &mut F, cap: u64, into: &mut Bytes) -> Result<(), FetchFault>
+    ensures capped { (more : List ℕ) × (into.new ≡ into.old ++ more) × (length more ≤ cap) }
+    ensures front { OnOk result (IfSome (F.remaining file.old) (λ bytes. into.new ≡ into.old ++ take cap bytes)) }
 {
-    let Ok(mut file) = fs::open(rt, path.as_str()) else {
-        return Err(FetchFault::Failed);
-    };
     let mut left = cap;
     let mut chunk = [0u8; CHUNK];
     while left > 0 {
         let wanted = left.min(CHUNK as u64) as usize;
-        match file.read(&mut chunk[..wanted]) {
+        let piece = &mut chunk[..wanted];
+        match file.read(piece) {
             Ok(0) => return Ok(()),
             Ok(n) => {
-                into.extend(&chunk[..n])?;
+                into.extend(&piece[..n])?;
                 left -= n as u64;
             }
             Err(_) => return Err(FetchFault::Failed),
