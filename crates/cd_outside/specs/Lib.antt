@@ -1,0 +1,5 @@
+pub mod Folder
+pub mod Outside
+pub mod Page
+pub mod Sent
+pub mod Shelf
