@@ -1,0 +1,71 @@
+//! Problems, and why a file gives none.
+ghost use Rattle.std.specs.Prelude.{◌≡◌};
+
+use cd_clause::Clause;
+use cd_list::{Copied, Sequence, Text};
+use cd_symbols::Symbols;
+use std::alloc::{AllocError, Global};
+
+/// What an input is called in its file.
+#[derive(Drop)]
+pub enum Label {
+    Word(Text),
+}
+
+/// What an input is said to be. All roles are read as clauses of the problem.
+#[derive(Clone, Copy)]
+pub enum Role {
+    Axiom,
+}
+
+/// A clause of a problem, and where it comes from: its label and its role in the file with this path.
+#[derive(Drop)]
+pub struct Input {
+    pub label: Label,
+    pub role: Role,
+    pub file: Text,
+    pub clause: Clause,
+}
+
+pub type Inputs = Sequence<Input>;
+
+/// The clauses to be refuted, in the order of their files. `name` is the path that was asked for.
+#[derive(Drop)]
+pub struct Problem {
+    pub name: Text,
+    pub symbols: Symbols,
+    pub inputs: Inputs,
+}
+
+/// What is wrong with a file.
+#[derive(Clone, Copy)]
+pub enum What {
+    /// It isn't of the form that is read so far. The place is byte 0.
+    NotBuilt,
+}
+
+/// A fault in a file, and its place as a byte offset from 0.
+#[derive(Drop)]
+pub struct Wrong {
+    pub what: What,
+    pub file: Text,
+    pub at: u32,
+}
+
+impl Copied for Label {
+    fn copy(&self, alloc: Global) -> Result<Label, AllocError> {
+        match self {
+            Label::Word(word) => Ok(Label::Word(word.copy(alloc)?)),
+        }
+    }
+}
+
+impl Copied for Wrong {
+    fn copy(&self, alloc: Global) -> Result<Wrong, AllocError> {
+        Ok(Wrong {
+            what: self.what,
+            file: self.file.copy(alloc)?,
+            at: self.at,
+        })
+    }
+}
