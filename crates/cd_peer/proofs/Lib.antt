@@ -1,0 +1,4 @@
+pub mod NamesLemmas
+pub mod TurnLemmas
+pub mod ReadyLemmas
+pub mod RunLemmas

@@ -1,0 +1,73 @@
+-- The names of the one peer are their places.
+use Rattle.std.proofs.Common.{◌≡◌, ℕ, zero, suc, ◌+◌, ◌<◌, ◌==◌, Bool, true, false, ◌&&◌, cond, List, [], ◌∷◌, ◌++◌, Some, slice_get, refl, sym, ap, ◌∙◌, subst, arith}
+use Rattle.std.specs.List.{find, AllByRecursion}
+use Rattle.std.proofs.lemmas.Bool.Decides.{nat_tests}
+use Rattle.cd_steps.specs.declared.Name.{Name}
+use Rattle.cd_ledger.specs.declared.Known.{Known}
+use Rattle.cd_ledger.specs.Names.{name_eq, each_once, add_once, look}
+use Rattle.cd_peer.specs.Ready.{AreNumbered}
+
+-- names that were seen, name by name
+pub each_once-append : (seen ns ms : List Name) → each_once seen (ns ++ ms) ≡ each_once (each_once seen ns) ms
+each_once-append seen [] ms = refl
+each_once-append seen (n ∷ ns) ms = each_once-append (add_once seen n) ns ms
+
+same_number : (n : ℕ) → (n == n) ≡ true
+same_number n = grind (arith, nat_tests)
+
+pub same_name : (n : Name) → name_eq n n ≡ true
+same_name n = ap (λ (b : Bool). b && (n.seq == n.seq)) (same_number n.peer) ∙ same_number n.seq
+
+other_number : (m n : ℕ) → m < n → (m == n) ≡ false
+other_number m n h = grind (arith, nat_tests)
+
+last_false : (b c : Bool) → c ≡ false → (b && c) ≡ false
+last_false true c h = h
+last_false false c h = refl
+
+-- a name behind another place is another name
+earlier_name : (a b : Name) → a.seq < b.seq → name_eq a b ≡ false
+earlier_name a b h = last_false (a.peer == b.peer) (a.seq == b.seq) (other_number a.seq b.seq h)
+
+numbered : ℕ → ℕ → List Known → Type 0
+numbered me first xs = (k : ℕ) (x : Known) → slice_get xs k ≡ Some x → x.entry.name ≡ record { peer = me; seq = first + k }
+
+numbered_rest : (me first : ℕ) (x : Known) (xs : List Known) → numbered me first (x ∷ xs) → numbered me (first + 1) xs
+unfolding numbered
+numbered_rest me first x xs all k y there =
+    let e : first + suc k ≡ first + 1 + k = omega arith in
+    all (suc k) y there ∙ ap (λ (n : ℕ). record { peer = me; seq = n }) e
+
+look_from : (me first : ℕ) (xs : List Known) (k : ℕ) (x : Known) (n : Name) → numbered me first xs → slice_get xs k ≡ Some x → n ≡ record { peer = me; seq = first + k } → look xs n ≡ Some x
+unfolding numbered
+look_from me first [] k x n all there is = absurd cc
+look_from me first (y ∷ ys) zero x n all there is =
+    let e : y ≡ x = cc in
+    let name : y.entry.name ≡ n = all 0 y refl ∙ sym is in
+    let test : name_eq y.entry.name n ≡ true = subst (λ (m : Name). name_eq m n ≡ true) (sym name) (same_name n) in
+    ap (λ (b : Bool). cond b (Some y) (find (λ z. name_eq z.entry.name n) ys)) test ∙ ap (λ (z : Known). Some z) e
+look_from me first (y ∷ ys) (suc k) x n all there is =
+    let name : y.entry.name ≡ record { peer = me; seq = first + 0 } = all 0 y refl in
+    let seq : y.entry.name.seq ≡ first + 0 = ap (λ (m : Name). m.seq) name in
+    let other : n.seq ≡ first + suc k = ap (λ (m : Name). m.seq) is in
+    let test : name_eq y.entry.name n ≡ false = earlier_name y.entry.name n (omega arith) in
+    let e : first + suc k ≡ first + 1 + k = omega arith in
+    ap (λ (b : Bool). cond b (Some y) (find (λ z. name_eq z.entry.name n) ys)) test
+    ∙ look_from me (first + 1) ys k x n (numbered_rest me first y ys all) there (is ∙ ap (λ (m : ℕ). record { peer = me; seq = m }) e)
+
+-- what is known under a name stands in its place
+pub look_numbered : (me : ℕ) (xs : List Known) (x : Known) (n : Name) → AreNumbered me xs → n.peer ≡ me → slice_get xs n.seq ≡ Some x → look xs n ≡ Some x
+unfolding numbered
+look_numbered me xs x n all peer there =
+    let from : numbered me 0 xs = λ k y h. all k y h ∙ ap (λ (m : ℕ). record { peer = me; seq = m }) (zero_plus k) in
+    let is : n ≡ record { peer = me; seq = 0 + n.seq } = ap (λ (p : ℕ). record { peer = p; seq = n.seq }) peer ∙ ap (λ (m : ℕ). record { peer = me; seq = m }) (zero_plus n.seq) in
+    look_from me 0 xs n.seq x n from there is
+  where
+    zero_plus : (k : ℕ) → k ≡ 0 + k
+    zero_plus k = omega arith
+
+-- what holds of each holds of the one in place k
+pub all_get : {A : Type 0} (P : A → Type 0) (xs : List A) (k : ℕ) (x : A) → AllByRecursion P xs → slice_get xs k ≡ Some x → P x
+all_get P [] k x all there = absurd cc
+all_get P (y ∷ ys) zero x all there = let e : y ≡ x = cc in subst P e all.0
+all_get P (y ∷ ys) (suc k) x all there = all_get P ys k x all.1 there
