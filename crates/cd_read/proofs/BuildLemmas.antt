@@ -10,7 +10,7 @@ use Rattle.cd_read.specs.declared.statement.Statement.{Statement}
 use Rattle.cd_read.specs.declared.statement.SignedWord.{SignedWord}
 use Rattle.cd_read.specs.declared.problem.Problem.{Problem}
 use Rattle.cd_read.specs.declared.problem.Input.{Input}
-use Rattle.cd_read.specs.Problems.{GivesLiterals, GivesInputs, GivesProblem, input_of, literals_count, AtomFormed, ClauseFormed, IsFormed}
+use Rattle.cd_read.specs.Problems.{GivesLiterals, GivesInputs, GivesProblem, input_of, literals_count, AtomFormed, ClauseFormed, IsFormed, AreUnits}
 
 -- interning takes at most one place
 pub interned_room : (old new : List Symbol) (s : Symbol) (n : ℕ) → Interns old new s n → length new ≤ length old + 1
@@ -123,3 +123,14 @@ single_count (s ∷ ss) one = let others = single_count ss one.1 in omega (arith
 pub nothing_left : {A : Type 0} (xs : List A) → length xs < 1 → xs ≡ []
 nothing_left [] h = refl
 nothing_left (x ∷ xs) h = absurd (omega arith)
+
+-- each literal is a signed word's
+literals_length : (before : List Symbol) (ws : List SignedWord) (ls : List Literal) (after : List Symbol) → GivesLiterals before ws ls after → length ls ≡ length ws
+literals_length before [] ls after given = ap length given.0
+literals_length before (w ∷ ws) ls after given = ap length given.5 ∙ ap suc (literals_length given.1 ws given.2 after given.4)
+
+pub inputs_units : (path : List ℕ) (before : List Symbol) (ss : List Statement) (is : List Input) (after : List Symbol) → AllByRecursion (λ s. length s.literals ≡ 1) ss → GivesInputs path before ss is after → AreUnits is
+inputs_units path before [] is after one given = subst AreUnits (sym given.0) tt
+inputs_units path before (s ∷ ss) is after one given =
+    let few : length given.0 ≤ 1 = omega (arith, literals_length before s.literals given.0 given.1 given.3, one.0) in
+    subst AreUnits (sym given.5) (few, inputs_units path given.1 ss given.2 after one.1 given.4)

@@ -4,11 +4,11 @@ use Rattle.std.specs.declared.result.Result.TheVariants.{Ok}
 use Rattle.cd_read.specs.declared.statement.Statement.{Statement}
 use Rattle.cd_read.specs.declared.problem.Problem.{Problem}
 use Rattle.cd_read.specs.Files.{IsFile, AreBuilt}
-use Rattle.cd_read.specs.Problems.{GivesProblem, Reads, literals_count}
+use Rattle.cd_read.specs.Problems.{GivesProblem, Reads, AreUnits, literals_count}
 use Rattle.cd_read.specs.Scanned.{statements_found}
 use Rattle.cd_read.proofs.FoundLemmas.{statements_are}
 use Rattle.cd_read.proofs.AgainLemmas.{spelled_found}
-use Rattle.cd_read.proofs.BuildLemmas.{inputs_count, single_count}
+use Rattle.cd_read.proofs.BuildLemmas.{inputs_count, inputs_units, single_count}
 
 -- the statements of a file are those that are found
 only_statements : (bytes : List ℕ) (ss found : List Statement) → statements_found (length bytes) bytes ≡ Some found → IsFile bytes ss → found ≡ ss
@@ -31,5 +31,8 @@ built_reads path bytes found p short is built given = (found, file_found bytes f
 pub built_count : (found : List Statement) → AreBuilt found → literals_count found ≤ 65535
 built_count found built = omega (arith, single_count found built.single, built.few)
 
-pub built_few : (path : List ℕ) (found : List Statement) (p : Problem) → AreBuilt found → GivesProblem path found p → length p.inputs < 2 ^ 32
+pub built_few : (path : List ℕ) (found : List Statement) (p : Problem) → AreBuilt found → GivesProblem path found p → length p.inputs ≤ 200
 built_few path found p built given = omega (arith, inputs_count path [] found p.inputs p.symbols given.inputs, built.few)
+
+pub built_units : (path : List ℕ) (found : List Statement) (p : Problem) → AreBuilt found → GivesProblem path found p → AreUnits p.inputs
+built_units path found p built given = inputs_units path [] found p.inputs p.symbols built.single given.inputs

@@ -1,5 +1,5 @@
 -- The problem that a file's statements give.
-use Rattle.std.specs.Prelude.{◌≡◌, ℕ, ◌+◌, List, [], ◌∷◌, length, Some, slice_get}
+use Rattle.std.specs.Prelude.{◌≡◌, ◌≤◌, ℕ, ◌+◌, List, [], ◌∷◌, length, Some, slice_get}
 use Rattle.std.specs.List.{AllByRecursion}
 use Rattle.std.specs.declared.result.Result.{Result}
 use Rattle.std.specs.declared.result.Result.TheVariants.{Ok, Err}
@@ -61,3 +61,7 @@ ClauseFormed symbols c = AllByRecursion (λ l. AtomFormed symbols l.atom) c.lite
 -- every symbol of the inputs stands in the table
 pub record IsFormed (p : Problem) : Type 0 where
   pub clauses : AllByRecursion (λ i. ClauseFormed p.symbols i.clause) p.inputs
+
+-- each clause has one literal at most
+abbrev pub AreUnits : List Input → Type 0
+AreUnits inputs = AllByRecursion (λ i. length i.clause.literals ≤ 1) inputs

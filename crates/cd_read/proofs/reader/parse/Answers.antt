@@ -5,7 +5,7 @@ use Rattle.cd_read.specs.Files.{AreBuilt}
 use Rattle.cd_read.specs.Problems.{GivesProblem, literals_count}
 use Rattle.cd_read.specs.Scanned.{FailsScan, statements_found}
 use Rattle.cd_read.proofs.BuildLemmas.{problem_formed}
-use Rattle.cd_read.proofs.ParseLemmas.{not_found, not_built, built_reads, built_count, built_few}
+use Rattle.cd_read.proofs.ParseLemmas.{not_found, not_built, built_reads, built_count, built_few, built_units}
 use Rattle.cd_read.proofs.reader.parse.Goals as goal
 
 pub returns-then-not-are_built-clause-none : goal.returns-then-not-are_built-clause-none
@@ -36,3 +36,9 @@ returns-in_ok-problem-in-Ok-clause-few c =
     let built : AreBuilt c.in-Ok.statements = subst AreBuilt c.as_slice.ensures (c.if-not-are_built.ensures.0 refl) in
     let given = subst (λ (ss : List Statement). GivesProblem c.args.path.now ss c.in_ok-problem-in-Ok.problem) c.as_slice-in-Ok.ensures c.in_ok-problem-in-Ok.ensures in
     built_few c.args.path.now c.in-Ok.statements c.in_ok-problem-in-Ok.problem built given
+
+pub returns-in_ok-problem-in-Ok-clause-units : goal.returns-in_ok-problem-in-Ok-clause-units
+returns-in_ok-problem-in-Ok-clause-units c =
+    let built : AreBuilt c.in-Ok.statements = subst AreBuilt c.as_slice.ensures (c.if-not-are_built.ensures.0 refl) in
+    let given = subst (λ (ss : List Statement). GivesProblem c.args.path.now ss c.in_ok-problem-in-Ok.problem) c.as_slice-in-Ok.ensures c.in_ok-problem-in-Ok.ensures in
+    built_units c.args.path.now c.in-Ok.statements c.in_ok-problem-in-Ok.problem built given
