@@ -1,0 +1,46 @@
+-- Texts without a line feed, and that what is printed has none.
+use Rattle.std.specs.Prelude.{◌≡◌, ℕ, ◌<◌, ◌^◌, Bool, true, not, ◌&&◌, ◌==◌, List, [], ◌∷◌}
+use Rattle.std.specs.List.{AllByRecursion}
+use Rattle.cd_clause.specs.declared.Clause.{Clause}
+use Rattle.cd_steps.specs.declared.Step.{Step}
+use Rattle.cd_steps.specs.declared.Step.TheVariants.{Input, Resolve}
+use Rattle.cd_symbols.specs.Symbol.{Symbol}
+use Rattle.cd_read.specs.declared.problem.Label.{Label}
+use Rattle.cd_text.specs.declared.line.Line.{Line}
+use Rattle.cd_text.specs.declared.line.LineSource.{LineSource}
+use Rattle.cd_text.specs.declared.line.LineSource.TheVariants.{File, Inference}
+use Rattle.cd_text.specs.Texts.{shown, quoted, word_text, label_text, clause_text, line_text}
+
+-- no byte is a line feed
+abbrev pub feedless : List ℕ → Bool
+feedless [] = true
+feedless (b ∷ bs) = not (b == 10) && feedless bs
+
+-- ---- the numbers of a line are those that code can hold
+
+abbrev pub StepFits : Step → Type 0
+StepFits (Input index) = Unit {0}
+StepFits (Resolve pos i neg j subst) = (i < 2 ^ 64) × (j < 2 ^ 64)
+
+abbrev pub SourceFits : LineSource → Type 0
+SourceFits (File path label) = Unit {0}
+SourceFits (Inference step parents) = StepFits step × AllByRecursion (λ n. n < 2 ^ 64) parents
+
+pub record LineFits (l : Line) : Type 0 where
+  pub number : l.number < 2 ^ 64
+  pub source : SourceFits l.source
+
+-- ---- laws
+
+-- whatever bytes a text has, what is shown, quoted or printed of it as a word has no line feed
+abbrev pub PrintedWordsHaveNoFeed : Type 0
+PrintedWordsHaveNoFeed = (text : List ℕ) → (feedless (shown text) ≡ true) × (feedless (quoted text) ≡ true) × (feedless (word_text text) ≡ true)
+
+abbrev pub PrintedLabelsHaveNoFeed : Type 0
+PrintedLabelsHaveNoFeed = (label : Label) → feedless (label_text label) ≡ true
+
+abbrev pub PrintedClausesHaveNoFeed : Type 0
+PrintedClausesHaveNoFeed = (symbols : List Symbol) (c : Clause) → feedless (clause_text symbols c) ≡ true
+
+abbrev pub PrintedLinesHaveNoFeed : Type 0
+PrintedLinesHaveNoFeed = (symbols : List Symbol) (l : Line) → LineFits l → feedless (line_text symbols l) ≡ true

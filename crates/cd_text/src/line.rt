@@ -1,0 +1,208 @@
+//! The lines of a derivation.
+ghost use Rattle.std.specs.Prelude.{◌≡◌, ◌++◌, ◌∷◌, codes, decimal, OnOk};
+ghost use Rattle.std.specs.List.{flat_map};
+ghost use Rattle.cd_read.specs.Problems.{ClauseFormed};
+ghost use Rattle.cd_text.specs.Texts.{clause_text, given_text, joined, label_text, line_text, name_text, role_text, rule_text, source_text, term_text};
+
+use crate::clauses::clause_text;
+use crate::words::{put_number, put_quoted, put_word};
+use cd_clause::{Clause, Term};
+use cd_list::{Sequence, Text};
+use cd_outside::Bytes;
+use cd_read::{Label, Role};
+use cd_steps::Step;
+use cd_symbols::Symbols;
+use std::alloc::AllocError;
+
+/// The numbers of the lines that a line stands on.
+pub type Parents = Sequence<u64>;
+
+/// What a line is said to be: what its input is said to be, or a plain consequence.
+#[derive(Clone, Copy)]
+pub enum LineRole {
+    Given(Role),
+    Plain,
+}
+
+/// Where a line comes from: an input of a file, or a step from earlier lines.
+#[derive(Drop)]
+pub enum LineSource {
+    File { path: Text, label: Label },
+    Inference { step: Step, parents: Parents },
+}
+
+/// A line of a derivation (TSTP; Sutcliffe, The TPTP World, 2010). Its name is `c` and its number.
+#[derive(Drop)]
+pub struct Line {
+    pub number: u64,
+    pub role: LineRole,
+    pub clause: Clause,
+    pub source: LineSource,
+}
+
+/// Lines, each with a number one greater than that of the line before.
+pub type Lines = Sequence<Line>;
+
+/// Appends a derivation line as it is printed, without a line feed.
+#[tactic(auto, using(std::proofs::Common::append_assoc), unfolding(crate::specs::Texts::line_text))]
+pub fn line_text(symbols: &Symbols, line: &Line, into: &mut Bytes) -> Result<(), AllocError>
+    requires { ClauseFormed symbols.now line.now.clause }
+    ensures { OnOk result (into.new ≡ into.old ++ line_text symbols.now line.now) }
+{
+    into.extend(b"cnf(")?;
+    put_name(line.number, into)?;
+    into.extend(b",")?;
+    put_role(line.role, into)?;
+    into.extend(b",")?;
+    put_body(symbols, line, into)
+}
+
+// The clause of a line, its source, and what ends it.
+#[tactic(auto, using(std::proofs::Common::append_assoc))]
+fn put_body(symbols: &Symbols, line: &Line, into: &mut Bytes) -> Result<(), AllocError>
+    requires { ClauseFormed symbols.now line.now.clause }
+    ensures { OnOk result (into.new ≡ into.old ++ (clause_text symbols.now line.now.clause
+        ++ (codes "," ++ (source_text symbols.now line.now.source ++ codes ").")))) }
+{
+    clause_text(symbols, &line.clause, into)?;
+    into.extend(b",")?;
+    put_source(symbols, &line.source, into)?;
+    into.extend(b").")
+}
+
+fn put_name(number: u64, into: &mut Bytes) -> Result<(), AllocError>
+    ensures { OnOk result (into.new ≡ into.old ++ name_text number) }
+{
+    into.extend(b"c")?;
+    put_number(into, number)
+}
+
+fn put_role(role: LineRole, into: &mut Bytes) -> Result<(), AllocError>
+    ensures { OnOk result (into.new ≡ into.old ++ role_text role) }
+{
+    match role {
+        LineRole::Given(given) => put_given(given, into),
+        LineRole::Plain => into.extend(b"plain"),
+    }
+}
+
+fn put_given(role: Role, into: &mut Bytes) -> Result<(), AllocError>
+    ensures { OnOk result (into.new ≡ into.old ++ given_text role) }
+{
+    match role {
+        Role::Axiom => into.extend(b"axiom"),
+    }
+}
+
+#[tactic(auto, using(std::proofs::Common::append_assoc), unfolding(crate::specs::Texts::source_text))]
+fn put_source(symbols: &Symbols, source: &LineSource, into: &mut Bytes) -> Result<(), AllocError>
+    ensures { OnOk result (into.new ≡ into.old ++ source_text symbols.now source.now) }
+{
+    match source {
+        LineSource::File { path, label } => {
+            into.extend(b"file(")?;
+            put_quoted(into, path.as_bytes())?;
+            into.extend(b",")?;
+            put_label(label, into)?;
+            into.extend(b")")
+        }
+        LineSource::Inference { step, parents } => {
+            into.extend(b"inference(")?;
+            put_rule(symbols, step, into)?;
+            into.extend(b",[")?;
+            put_parents(parents.as_slice(), into)?;
+            into.extend(b"])")
+        }
+    }
+}
+
+fn put_label(label: &Label, into: &mut Bytes) -> Result<(), AllocError>
+    ensures { OnOk result (into.new ≡ into.old ++ label_text label.now) }
+{
+    match label {
+        Label::Word(word) => put_word(into, word.as_bytes()),
+    }
+}
+
+#[tactic(auto, using(std::proofs::Common::append_assoc), unfolding(crate::specs::Texts::rule_text))]
+fn put_rule(symbols: &Symbols, step: &Step, into: &mut Bytes) -> Result<(), AllocError>
+    ensures { OnOk result (into.new ≡ into.old ++ rule_text symbols.now step.now) }
+{
+    match step {
+        Step::Input { index: _ } => Ok(()),
+        Step::Resolve {
+            pos: _,
+            i,
+            neg: _,
+            j,
+            subst,
+        } => {
+            put_places(
+                b"resolve,[status(thm),at(",
+                u64::from(*i),
+                u64::from(*j),
+                into,
+            )?;
+            put_subst(symbols, subst.as_slice(), into)
+        }
+    }
+}
+
+// Two places of literals behind what stands before them.
+#[tactic(auto, using(std::proofs::Common::append_assoc))]
+fn put_places(front: &[u8], i: u64, j: u64, into: &mut Bytes) -> Result<(), AllocError>
+    ensures { OnOk result (into.new ≡ into.old ++ (front.now ++ (decimal i ++ (codes "," ++ decimal j)))) }
+{
+    into.extend(front)?;
+    put_number(into, i)?;
+    into.extend(b",")?;
+    put_number(into, j)
+}
+
+// The end of a rule: its substitution.
+#[tactic(auto, using(std::proofs::Common::append_assoc))]
+fn put_subst(symbols: &Symbols, subst: &[Term], into: &mut Bytes) -> Result<(), AllocError>
+    ensures { OnOk result (into.new ≡ into.old ++ (codes "),subst([" ++ (joined (codes ",") (term_text symbols.now) subst.now ++ codes "])]"))) }
+{
+    into.extend(b"),subst([")?;
+    put_terms(symbols, subst, into)?;
+    into.extend(b"])]")
+}
+
+// Terms with commas between them. As there are no terms so far, there are none in the list.
+fn put_terms(_symbols: &Symbols, terms: &[Term], _into: &mut Bytes) -> Result<(), AllocError>
+    ensures { OnOk result (_into.new ≡ _into.old ++ joined (codes ",") (term_text _symbols.now) terms.now) }
+{
+    match terms {
+        [] => Ok(()),
+        [first, ..] => match *first {},
+    }
+}
+
+fn put_parents(parents: &[u64], into: &mut Bytes) -> Result<(), AllocError>
+    ensures { OnOk result (into.new ≡ into.old ++ joined (codes ",") name_text parents.now) }
+{
+    match parents {
+        [] => Ok(()),
+        [first, others @ ..] => put_names(*first, others, into),
+    }
+}
+
+#[tactic(auto, using(std::proofs::Common::append_assoc, crate::proofs::Joined::joined_first))]
+fn put_names(first: u64, others: &[u64], into: &mut Bytes) -> Result<(), AllocError>
+    ensures { OnOk result (into.new ≡ into.old ++ joined (codes ",") name_text (first ∷ others.now)) }
+{
+    put_name(first, into)?;
+    put_further(others, into)
+}
+
+#[tactic(auto, using(std::proofs::Common::append_assoc))]
+fn put_further(parents: &[u64], into: &mut Bytes) -> Result<(), AllocError>
+    ensures { OnOk result (into.new ≡ into.old ++ flat_map (λ n. codes "," ++ name_text n) parents.now) }
+{
+    for parent in parents {
+        into.extend(b",")?;
+        put_name(*parent, into)?;
+    }
+    Ok(())
+}

@@ -1,0 +1,109 @@
+//! Numbers and words.
+ghost use Rattle.std.specs.Prelude.{◌≡◌, ◌++◌, decimal, OnOk};
+ghost use Rattle.std.specs.List.{flat_map, list_all};
+ghost use Rattle.cd_read.specs.Words.{is_lower, is_word, is_word_byte};
+ghost use Rattle.cd_text.specs.Texts.{quoted, quoted_byte, shown, shown_byte, word_text};
+
+use cd_outside::Bytes;
+use itoa::Buffer;
+use std::alloc::AllocError;
+
+/// Appends the decimal digits of `n`.
+pub fn put_number(into: &mut Bytes, n: u64) -> Result<(), AllocError>
+    ensures { OnOk result (into.new ≡ into.old ++ decimal n) }
+{
+    let mut buffer = Buffer::new();
+    into.extend(buffer.format(n).as_bytes())
+}
+
+/// Appends a text in which each byte outside 32 to 126 is a question mark.
+pub fn put_shown(into: &mut Bytes, text: &[u8]) -> Result<(), AllocError>
+    ensures { OnOk result (into.new ≡ into.old ++ shown text.now) }
+{
+    for b in text {
+        into.push(shown_byte(*b))?;
+    }
+    Ok(())
+}
+
+fn shown_byte(b: u8) -> u8
+    ensures { result ≡ shown_byte b }
+{
+    if 32 <= b && b <= 126 { b } else { b'?' }
+}
+
+/// Appends a text between single quotes, with a backslash before each quote and each backslash; any other
+/// byte outside 32 to 126 is a question mark.
+#[tactic(auto, using(std::proofs::Common::append_assoc), unfolding(crate::specs::Texts::quoted))]
+pub fn put_quoted(into: &mut Bytes, text: &[u8]) -> Result<(), AllocError>
+    ensures { OnOk result (into.new ≡ into.old ++ quoted text.now) }
+{
+    into.extend(b"'")?;
+    put_inside(into, text)?;
+    into.extend(b"'")
+}
+
+fn put_inside(into: &mut Bytes, text: &[u8]) -> Result<(), AllocError>
+    ensures { OnOk result (into.new ≡ into.old ++ flat_map quoted_byte text.now) }
+{
+    for b in text {
+        put_quoted_byte(into, *b)?;
+    }
+    Ok(())
+}
+
+fn put_quoted_byte(into: &mut Bytes, b: u8) -> Result<(), AllocError>
+    ensures { OnOk result (into.new ≡ into.old ++ quoted_byte b) }
+{
+    if b == b'\'' || b == b'\\' {
+        into.push(b'\\')?;
+        into.push(b)
+    } else {
+        into.push(shown_byte(b))
+    }
+}
+
+/// Appends a text as a word: bare where it is a lower word, and else quoted.
+pub fn put_word(into: &mut Bytes, text: &[u8]) -> Result<(), AllocError>
+    ensures { OnOk result (into.new ≡ into.old ++ word_text text.now) }
+{
+    if is_word(text) {
+        into.extend(text)
+    } else {
+        put_quoted(into, text)
+    }
+}
+
+fn is_word(text: &[u8]) -> bool
+    ensures { result ≡ is_word text.now }
+{
+    match text {
+        [] => false,
+        [first, after @ ..] => is_lower(*first) && are_word_bytes(after),
+    }
+}
+
+fn is_lower(b: u8) -> bool
+    ensures { result ≡ is_lower b }
+{
+    b'a' <= b && b <= b'z'
+}
+
+fn are_word_bytes(text: &[u8]) -> bool
+    ensures { result ≡ list_all is_word_byte text.now }
+{
+    let mut rest = text;
+    while let [first, after @ ..] = rest {
+        if !is_word_byte(*first) {
+            return false;
+        }
+        rest = after;
+    }
+    true
+}
+
+fn is_word_byte(b: u8) -> bool
+    ensures { result ≡ is_word_byte b }
+{
+    is_lower(b) || (b'A' <= b && b <= b'Z') || (b'0' <= b && b <= b'9') || b == b'_'
+}
