@@ -1,6 +1,6 @@
 -- The names of the one peer are their places.
 use Rattle.std.proofs.Common.{◌≡◌, ℕ, zero, suc, ◌+◌, ◌<◌, ◌==◌, Bool, true, false, ◌&&◌, cond, List, [], ◌∷◌, ◌++◌, Some, slice_get, refl, sym, ap, ◌∙◌, subst, arith}
-use Rattle.std.specs.List.{find, AllByRecursion}
+use Rattle.std.specs.List.{find}
 use Rattle.std.proofs.lemmas.Bool.Decides.{nat_tests}
 use Rattle.cd_steps.specs.declared.Name.{Name}
 use Rattle.cd_ledger.specs.declared.Known.{Known}
@@ -65,9 +65,3 @@ look_numbered me xs x n all peer there =
   where
     zero_plus : (k : ℕ) → k ≡ 0 + k
     zero_plus k = omega arith
-
--- what holds of each holds of the one in place k
-pub all_get : {A : Type 0} (P : A → Type 0) (xs : List A) (k : ℕ) (x : A) → AllByRecursion P xs → slice_get xs k ≡ Some x → P x
-all_get P [] k x all there = absurd cc
-all_get P (y ∷ ys) zero x all there = let e : y ≡ x = cc in subst P e all.0
-all_get P (y ∷ ys) (suc k) x all there = all_get P ys k x all.1 there

@@ -1,6 +1,6 @@
 -- A peer is ready for its next event, from the start on.
-use Rattle.std.proofs.Common.{◌≡◌, ℕ, zero, suc, ◌+◌, ◌^◌, ◌<◌, ◌≤◌, ◌⊎◌, inl, inr, Bool, true, false, cond, List, [], ◌∷◌, ◌++◌, length, map, remove, Some, slice_get, refl, sym, ap, ◌∙◌, subst, arith}
-use Rattle.std.specs.List.{AllByRecursion, find, range_with_len}
+use Rattle.std.proofs.Common.{◌≡◌, ℕ, zero, suc, ◌+◌, ◌^◌, ◌<◌, ◌≤◌, inl, inr, List, [], ◌∷◌, ◌++◌, length, map, remove, Some, slice_get, refl, sym, ap, ◌∙◌, subst, arith}
+use Rattle.std.specs.List.{AllByRecursion, range_with_len}
 use Rattle.std.proofs.lemmas.List.{length-append}
 use Rattle.cd_clause.specs.declared.Clause.{Clause}
 use Rattle.cd_clause.specs.declared.Literal.{Literal}
@@ -23,28 +23,7 @@ use Rattle.cd_ledger.specs.declared.Task.TheVariants.{Solo, Pair}
 use Rattle.cd_ledger.specs.Names.{name_eq, look}
 use Rattle.cd_ledger.specs.Machine.{start_local, items_from, items_of, tasks_of, name_of, next_name, recorded_item, kept, worked, Concludes, Found, Fits, acted, after, LocalStep}
 use Rattle.cd_peer.specs.Ready.{AreNumbered, IsNumbered, IsTaskKnown, IsShort, IsReady}
-use Rattle.cd_peer.proofs.NamesLemmas.{all_get}
-
--- ---- lists of which something holds throughout
-
-pub all_append : {A : Type 0} (P : A → Type 0) (xs ys : List A) → AllByRecursion P xs → AllByRecursion P ys → AllByRecursion P (xs ++ ys)
-all_append P [] ys p q = q
-all_append P (x ∷ xs) ys p q = (p.0, all_append P xs ys p.1 q)
-
-pub all_remove : {A : Type 0} (P : A → Type 0) (xs : List A) (k : ℕ) → AllByRecursion P xs → AllByRecursion P (remove xs k)
-all_remove P [] zero p = tt
-all_remove P [] (suc k) p = tt
-all_remove P (x ∷ xs) zero p = p.1
-all_remove P (x ∷ xs) (suc k) p = (p.0, all_remove P xs k p.1)
-
-pub all_weaker : {A : Type 0} (P Q : A → Type 0) (xs : List A) → ((x : A) → P x → Q x) → AllByRecursion P xs → AllByRecursion Q xs
-all_weaker P Q [] f p = tt
-all_weaker P Q (x ∷ xs) f p = (f x p.0, all_weaker P Q xs f p.1)
-
-pub length_remove : {A : Type 0} (xs : List A) (k : ℕ) (x : A) → slice_get xs k ≡ Some x → length (remove xs k) + 1 ≡ length xs
-length_remove [] k x there = absurd cc
-length_remove (y ∷ xs) zero x there = omega arith
-length_remove (y ∷ xs) (suc k) x there = let others = length_remove xs k x there in omega arith
+use Rattle.cd_ledger.proofs.Lists.{all_append, all_remove, all_weaker, all_get, all_find, length_remove, push_get}
 
 -- ---- tasks
 
@@ -125,15 +104,6 @@ pair_few m n a b found short_a short_b g =
     gathered_few (ResolvesFrom m a n b) (length a.literals) found short_a (λ i part r.
     gathered_few (ResolvesAt m a n b i) (length b.literals) part short_b (λ j p q. at_few m n a b i j p short_a short_b q) r) g
 
-find_by : {A : Type 0} (P : A → Type 0) (test : A → Bool) (y : A) (ys : List A) (x : A) (b : Bool) → P y → (find test ys ≡ Some x → P x) → cond b (Some y) (find test ys) ≡ Some x → P x
-find_by P test y ys x true here later h = let e : y ≡ x = cc in subst P e here
-find_by P test y ys x false here later h = later h
-
--- what holds of each holds of the one that is found
-pub all_find : {A : Type 0} (P : A → Type 0) (test : A → Bool) (xs : List A) (x : A) → AllByRecursion P xs → find test xs ≡ Some x → P x
-all_find P test [] x all h = absurd cc
-all_find P test (y ∷ ys) x all h = find_by P test y ys x (test y) all.0 (all_find P test ys x all.1) h
-
 look_short : (known : List Known) (n : Name) (x : Known) → AllByRecursion (λ y. IsShort y.entry.clause) known → look known n ≡ Some x → IsShort x.entry.clause
 look_short known n x all found = all_find (λ y. IsShort y.entry.clause) (λ y. name_eq y.entry.name n) known x all found
 
@@ -172,12 +142,6 @@ ready_start p limits short room = record {
 }
 
 -- ---- events
-
-push_get : {A : Type 0} (xs : List A) (x : A) (k : ℕ) (y : A) → slice_get (xs ++ x ∷ []) k ≡ Some y → (slice_get xs k ≡ Some y) ⊎ ((k ≡ length xs) × (x ≡ y))
-push_get [] x zero y h = inr (refl, cc h)
-push_get [] x (suc k) y h = absurd (cc h)
-push_get (z ∷ xs) x zero y h = inl h
-push_get (z ∷ xs) x (suc k) y h = elim (push_get xs x k y h) [ inl old ↦ inl old | inr new ↦ inr (ap suc new.0, new.1) ]
 
 numbered_push : (me : ℕ) (xs : List Known) (x : Known) → AreNumbered me xs → x.entry.name ≡ record { peer = me; seq = length xs } → AreNumbered me (xs ++ x ∷ [])
 numbered_push me xs x all name k y there =

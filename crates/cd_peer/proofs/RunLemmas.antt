@@ -5,7 +5,6 @@ use Rattle.cd_ledger.specs.declared.Act.{Act}
 use Rattle.cd_ledger.specs.declared.Act.TheVariants.{Keep, Work, Declare, End}
 use Rattle.cd_ledger.specs.declared.Event.{Event}
 use Rattle.cd_ledger.specs.declared.Item.{Item}
-use Rattle.cd_ledger.specs.declared.Known.{Known}
 use Rattle.cd_ledger.specs.declared.Limits.{Limits}
 use Rattle.cd_ledger.specs.declared.Local.{Local}
 use Rattle.cd_ledger.specs.declared.Outcome.TheVariants.{Named}
@@ -14,7 +13,8 @@ use Rattle.cd_ledger.specs.declared.Verdict.{Verdict}
 use Rattle.cd_ledger.specs.declared.Verdict.TheVariants.{Refuted, Saturated, Spent}
 use Rattle.cd_ledger.specs.Machine.{start_local, is_empty, kept, recorded_item, Found, Fits, acted, after, LocalStep, IsTurn, sent, first_act, first_of}
 use Rattle.cd_ledger.specs.World.{World, Run, WorldStep, Moves, start_world, has_empty, work_of, work_count, EndsWith}
-use Rattle.cd_peer.proofs.ReadyLemmas.{length_remove}
+use Rattle.cd_ledger.proofs.Lists.{length_remove}
+use Rattle.cd_ledger.proofs.Empty.{has_empty-push}
 use Rattle.cd_peer.specs.Finished.{alone, VerdictSays, IsReached, IsSettled, open_count}
 
 -- ---- runs
@@ -69,18 +69,6 @@ work_count-push [] e = omega arith
 work_count-push (d ∷ es) e = let others = work_count-push es e in omega arith
 
 -- ---- verdicts
-
-last_is : (b : Bool) → cond b true false ≡ b
-last_is true = refl
-last_is false = refl
-
-both : (b x y z : Bool) → (x ≡ false → y ≡ z) → cond b true x ≡ false → cond b true y ≡ z
-both true x y z f h = absurd cc
-both false x y z f h = f h
-
-has_empty-push : (ks : List Known) (k : Known) → has_empty ks ≡ false → has_empty (ks ++ k ∷ []) ≡ is_empty k.entry.clause
-has_empty-push [] k none = last_is (is_empty k.entry.clause)
-has_empty-push (j ∷ ks) k none = both (is_empty j.entry.clause) (has_empty ks) (has_empty (ks ++ k ∷ [])) (is_empty k.entry.clause) (has_empty-push ks k) none
 
 named_says : (b : Bool) (t : Local) → has_empty t.known ≡ b → VerdictSays (cond b (Some Refuted) None) t
 named_says true t h = h

@@ -1,7 +1,7 @@
 use Rattle.std.proofs.Common.{arith}
 use Rattle.cd_ledger.specs.declared.Known.{Known}
 use Rattle.cd_peer.specs.Ready.{IsShort}
-use Rattle.cd_peer.proofs.NamesLemmas.{all_get}
+use Rattle.cd_ledger.proofs.Lists.{all_get}
 use Rattle.cd_peer.proofs.changes.conclude.Goals as goal
 
 pub pair-requires-clause-a_short : goal.pair-requires-clause-a_short

@@ -1,0 +1,11 @@
+//! Laws over the runs of peers: what holds at every moment of every run, in whatever order events come.
+//!
+//! They depend on the definitions of the machine alone and on no code that makes events.
+#![tactic(auto)]
+
+ghost use Rattle.cd_laws.specs.Right.{RunsAreRight};
+
+/// In every run each record stands, by right steps, on the inputs and on records before it.
+pub fn runs_are_right()
+    ensures { RunsAreRight }
+{}
