@@ -88,7 +88,7 @@ found_named p me known n x all found =
 
 -- ---- conclusions are right
 
-each_gathered : (P : Conclusion → Type 0) (R : ℕ → List Conclusion → Type 0) (ks : List ℕ) (xs : List Conclusion) → ((k : ℕ) (part : List Conclusion) → R k part → AllByRecursion P part) → Gathered R ks xs → AllByRecursion P xs
+pub each_gathered : (P : Conclusion → Type 0) (R : ℕ → List Conclusion → Type 0) (ks : List ℕ) (xs : List Conclusion) → ((k : ℕ) (part : List Conclusion) → R k part → AllByRecursion P part) → Gathered R ks xs → AllByRecursion P xs
 each_gathered P R [] xs each g = subst (AllByRecursion P) (sym g) tt
 each_gathered P R (k ∷ ks) xs each g = subst (AllByRecursion P) (sym g.4) (all_append P g.0 g.1 (each k g.0 g.2) (each_gathered P R ks g.1 each g.3))
 

@@ -4,8 +4,14 @@
 #![tactic(auto)]
 
 ghost use Rattle.cd_laws.specs.Right.{RunsAreRight};
+ghost use Rattle.cd_laws.specs.Formed.{RunsHaveFormed};
 
 /// In every run each record stands, by right steps, on the inputs and on records before it.
 pub fn runs_are_right()
     ensures { RunsAreRight }
+{}
+
+/// In every run each clause that a peer holds is over the problem's symbols.
+pub fn runs_have_formed()
+    ensures { RunsHaveFormed }
 {}
