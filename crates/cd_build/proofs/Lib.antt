@@ -1,0 +1,5 @@
+pub mod Choosing
+pub mod Numbering
+pub mod Refuting
+pub mod Marking
+pub mod Counting

@@ -1,0 +1,90 @@
+-- The derivation of a peer that recorded the empty clause: the records that it stands on, as numbered lines.
+use Rattle.std.specs.Prelude.{◌≡◌, ℕ, ◌+◌, Bool, true, false, if◌then◌else◌, List, [], ◌∷◌, ◌++◌, length, map, codes, Option, None, Some, slice_get}
+use Rattle.std.specs.List.{list_any}
+use Rattle.cd_clause.specs.declared.Clause.{Clause}
+use Rattle.cd_steps.specs.declared.Name.{Name}
+use Rattle.cd_steps.specs.declared.Step.{Step}
+use Rattle.cd_steps.specs.declared.Step.TheVariants.{Input, Resolve}
+use Rattle.cd_read.specs.declared.problem.Problem.{Problem}
+use Rattle.cd_read.specs.declared.problem.Input.{Input as ProblemInput}
+use Rattle.cd_read.specs.declared.problem.Label.TheVariants.{Word}
+use Rattle.cd_text.specs.declared.line.Line.{Line}
+use Rattle.cd_text.specs.declared.line.LineRole.{LineRole}
+use Rattle.cd_text.specs.declared.line.LineRole.TheVariants.{Given, Plain}
+use Rattle.cd_text.specs.declared.line.LineSource.{LineSource}
+use Rattle.cd_text.specs.declared.line.LineSource.TheVariants.{File, Inference}
+use Rattle.cd_ledger.specs.declared.Known.{Known}
+use Rattle.cd_ledger.specs.declared.Local.{Local}
+use Rattle.cd_ledger.specs.declared.Record.{Record}
+use Rattle.cd_ledger.specs.Names.{name_eq}
+use Rattle.cd_ledger.specs.Machine.{is_empty}
+
+-- ---- which records
+
+-- the records up to the first with the empty clause
+abbrev pub up_to_empty : List Known → List Record
+up_to_empty [] = []
+up_to_empty (k ∷ ks) = k.entry ∷ (if is_empty k.entry.clause then [] else up_to_empty ks)
+
+-- records that were chosen, and the names that these and the goal want
+pub record Chosen : Type 0 where
+  pub records : List Record
+  pub wanted : List Name
+
+abbrev pub is_wanted : List Name → Name → Bool
+is_wanted names n = list_any (λ m. name_eq m n) names
+
+-- a record is chosen where a later one that is chosen cites it, or the goal is its name
+abbrev pub with_record : Record → Chosen → Chosen
+with_record r later = if is_wanted later.wanted r.name then record { records = r ∷ later.records; wanted = later.wanted ++ r.cites } else later
+
+abbrev pub choose : List Name → List Record → Chosen
+choose goal [] = record { records = []; wanted = goal }
+choose goal (r ∷ rs) = with_record r (choose goal rs)
+
+-- the name of the last record
+abbrev pub last_names : List Record → List Name
+last_names [] = []
+last_names (r ∷ []) = r.name ∷ []
+last_names (r ∷ q ∷ rs) = last_names (q ∷ rs)
+
+-- the first empty record and its ancestors, in the order in which they became known
+abbrev pub ancestors : List Known → List Record
+ancestors known = (choose (last_names (up_to_empty known)) (up_to_empty known)).records
+
+-- ---- their lines
+
+-- the number of the line of a name, among records whose lines have the numbers behind k
+abbrev pub number_of : ℕ → List Record → Name → ℕ
+number_of k [] n = 0
+number_of k (r ∷ rs) n = if name_eq r.name n then k + 1 else number_of (k + 1) rs n
+
+abbrev pub input_role : Option ProblemInput → LineRole
+input_role (Some i) = Given i.role
+input_role None = Plain
+
+abbrev pub input_source : Option ProblemInput → LineSource
+input_source (Some i) = File i.file i.label
+input_source None = File [] (Word [])
+
+-- a step's role and source; its premises are the lines of these records
+abbrev pub role_of : Problem → Step → LineRole
+role_of p (Input index) = input_role (slice_get p.inputs index)
+role_of p (Resolve pos i neg j subst) = Plain
+
+abbrev pub source_of : Problem → List Record → Step → LineSource
+source_of p records (Input index) = input_source (slice_get p.inputs index)
+source_of p records (Resolve pos i neg j subst) = Inference (Resolve pos i neg j subst) (number_of 0 records pos ∷ number_of 0 records neg ∷ [])
+
+-- so far each record has one step, and one line
+abbrev pub lines_of_steps : Problem → List Record → ℕ → Clause → List Step → List Line
+lines_of_steps p records k clause [] = []
+lines_of_steps p records k clause (s ∷ ss) = record { number = k + 1; role = role_of p s; clause = clause; source = source_of p records s } ∷ []
+
+-- the lines of records, with the numbers behind k
+abbrev pub lines_from : Problem → List Record → ℕ → List Record → List Line
+lines_from p records k [] = []
+lines_from p records k (r ∷ rs) = lines_of_steps p records k r.clause r.steps ++ lines_from p records (k + 1) rs
+
+unfoldable pub derivation_of : Problem → Local → List Line
+derivation_of p s = lines_from p (ancestors s.known) 0 (ancestors s.known)

@@ -1,0 +1,26 @@
+-- That the lines of a peer that recorded the empty clause are a refutation.
+use Rattle.std.specs.Prelude.{◌≡◌, ℕ, ◌^◌, ◌<◌, ◌≤◌, length, Some}
+use Rattle.std.specs.List.{AllByRecursion}
+use Rattle.cd_read.specs.declared.problem.Problem.{Problem}
+use Rattle.cd_read.specs.Problems.{IsFormed}
+use Rattle.cd_text.specs.Feeds.{LineFits}
+use Rattle.cd_check.specs.Accepted.{IsRefutation}
+use Rattle.cd_ledger.specs.declared.Local.{Local}
+use Rattle.cd_ledger.specs.declared.Verdict.TheVariants.{Refuted}
+use Rattle.cd_laws.specs.Right.{IsRight}
+use Rattle.cd_build.specs.Derivation.{derivation_of}
+
+-- a right state of a formed problem that recorded the empty clause, with fewer than 2^32 records
+pub record IsRefuted (p : Problem) (s : Local) : Type 0 where
+  pub inputs : IsFormed p
+  pub right : IsRight p s
+  pub verdict : s.verdict ≡ Some Refuted
+  pub few : s.next_seq < 2 ^ 32
+
+-- the lines are a refutation, and fit in print
+pub record IsPrintable (p : Problem) (s : Local) : Type 0 where
+  pub refutes : IsRefutation p (derivation_of p s)
+  pub fit : AllByRecursion LineFits (derivation_of p s)
+
+abbrev pub DerivationsRefute : Type 0
+DerivationsRefute = (p : Problem) (s : Local) → IsRefuted p s → IsPrintable p s

@@ -1,0 +1,1 @@
+//! That a derivation is built where there is memory.
