@@ -1,5 +1,5 @@
 -- A text is cut into its lines, and the derivation is taken.
-use Rattle.std.proofs.Common.{◌≡◌, ℕ, ◌==◌, Bool, true, false, not, ◌&&◌, cond, List, [], ◌∷◌, ◌++◌, map, refl, sym, ap, ◌∙◌, append_assoc, append-nil, Some, slice_get}
+use Rattle.std.proofs.Common.{◌≡◌, ℕ, ◌==◌, Bool, true, false, not, ◌&&◌, cond, List, [], ◌∷◌, ◌++◌, map, refl, sym, ap, ◌∙◌, append_assoc, append-nil}
 use Rattle.std.specs.List.{flat_map, filter, AllByRecursion}
 use Rattle.std.proofs.lemmas.List.Concat.{flat_map-cons}
 use Rattle.std.proofs.lemmas.List.Elements.{filter-append}
@@ -9,7 +9,7 @@ use Rattle.cd_text.specs.Texts.{line_text}
 use Rattle.cd_text.specs.Feeds.{feedless, LineFits}
 use Rattle.cd_text.proofs.Feedless.{line_feedless}
 use Rattle.cd_check.specs.Accepted.{lines_of, onto, is_taken}
-use Rattle.cd_check.specs.Lines.{IsComment, LinesAreCut, PrintedLinesAreTaken, CommentsArePassedOver, DerivationsAreTaken}
+use Rattle.cd_check.specs.Lines.{LinesAreCut, PrintedLinesAreTaken, CommentsArePassedOver, DerivationsAreTaken}
 
 halves : (a b : Bool) → (not a && b) ≡ true → (a ≡ false) × (b ≡ true)
 halves true b e = absurd cc
@@ -30,7 +30,7 @@ cut_lines text [] rest none = refl
 cut_lines text (x ∷ xs) rest none =
     let others = flat_map (λ y. text y ++ 10 ∷ []) xs in
     let first : flat_map (λ y. text y ++ 10 ∷ []) (x ∷ xs) ++ rest ≡ text x ++ 10 ∷ (others ++ rest) =
-      ap (λ (l : List ℕ). l ++ rest) (flat_map-cons (λ y. text y ++ 10 ∷ []) x xs) ∙ append_assoc (text x ++ 10 ∷ []) others rest ∙ append_assoc (text x) (10 ∷ []) (others ++ rest) in
+    ap (λ (l : List ℕ). l ++ rest) (flat_map-cons (λ y. text y ++ 10 ∷ []) x xs) ∙ append_assoc (text x ++ 10 ∷ []) others rest ∙ append_assoc (text x) (10 ∷ []) (others ++ rest) in
     ap lines_of first ∙ cut_line (text x) (others ++ rest) none.0 ∙ ap (λ (l : List (List ℕ)). text x ∷ l) (cut_lines text xs rest none.1)
 
 same : (xs : List (List ℕ)) → map (λ x. x) xs ≡ xs
@@ -79,6 +79,6 @@ pub derivation_taken : DerivationsAreTaken
 derivation_taken symbols x y z ls at_x at_y at_z fit =
     let printed = map (line_text symbols) ls in
     let behind : filter is_taken (printed ++ z ∷ []) ≡ printed =
-      filter-append is_taken printed (z ∷ []) ∙ rw (all_taken symbols ls, comment_passed z at_z.begins) (append-nil printed) in
+    filter-append is_taken printed (z ∷ []) ∙ rw (all_taken symbols ls, comment_passed z at_z.begins) (append-nil printed) in
     ap (filter is_taken) (derivation_lines symbols x y z ls at_x.one_line at_y.one_line at_z.one_line fit)
     ∙ rw (comment_passed x at_x.begins, comment_passed y at_y.begins) behind

@@ -1,12 +1,12 @@
 -- The clause of every line of a refutation holds wherever the inputs hold, and the last one holds nowhere.
-use Rattle.std.proofs.Common.{◌≡◌, ℕ, zero, suc, ◌+◌, ◌<◌, ◌==◌, Bool, true, false, cond, List, [], ◌∷◌, ◌++◌, map, refl, sym, ap, ◌∙◌, subst, Option, None, Some, slice_get}
+use Rattle.std.proofs.Common.{◌≡◌, ℕ, zero, suc, ◌==◌, Bool, true, false, cond, List, [], ◌∷◌, ◌++◌, subst, None, Some, slice_get}
 use Rattle.std.specs.Prelude.{IsTrue}
 use Rattle.std.specs.List.{list_any, AllByRecursion}
 use Rattle.cd_clause.specs.declared.Literal.{Literal}
 use Rattle.cd_clause.specs.declared.Clause.{Clause}
 use Rattle.cd_clause.specs.Truth.{Interp, IsInterp, Point, Holds, Models, literal_true}
 use Rattle.cd_steps.specs.declared.Step.{Step}
-use Rattle.cd_steps.specs.Steps.{StepOk, HoldsIfAny}
+use Rattle.cd_steps.specs.Steps.{HoldsIfAny}
 use Rattle.cd_steps.proofs.Soundness.{steps_are_sound}
 use Rattle.cd_read.specs.declared.problem.Problem.{Problem}
 use Rattle.cd_read.specs.declared.problem.Input.{Input as ProblemInput}

@@ -8,7 +8,9 @@ ghost use Rattle.cd_check.specs.Accepted.{AcceptedTextsRefute};
 
 mod laws;
 
-pub use laws::{comments_are_passed_over, derivations_are_taken, lines_are_cut, printed_lines_are_taken};
+pub use laws::{
+    comments_are_passed_over, derivations_are_taken, lines_are_cut, printed_lines_are_taken,
+};
 
 /// A problem from which some text is accepted holds in no finite interpretation.
 pub fn accepted_texts_refute()

@@ -8,23 +8,20 @@ use Rattle.cd_clause.specs.declared.Term.{Term}
 use Rattle.cd_clause.specs.declared.Atom.{Atom}
 use Rattle.cd_clause.specs.declared.Atom.TheVariants.{Pred}
 use Rattle.cd_clause.specs.declared.Literal.{Literal}
-use Rattle.cd_clause.specs.declared.Clause.{Clause}
 use Rattle.cd_steps.specs.declared.Step.{Step}
 use Rattle.cd_steps.specs.declared.Step.TheVariants.{Input, Resolve}
 use Rattle.cd_symbols.specs.Symbol.{Symbol}
-use Rattle.cd_read.specs.declared.problem.Label.{Label}
 use Rattle.cd_read.specs.declared.problem.Label.TheVariants.{Word}
 use Rattle.cd_read.specs.declared.problem.Role.{Role}
 use Rattle.cd_read.specs.declared.problem.Role.TheVariants.{Axiom}
-use Rattle.cd_read.specs.Words.{is_lower, is_word, is_word_byte}
+use Rattle.cd_read.specs.Words.{is_word, is_word_byte}
 use Rattle.cd_read.proofs.WordsLemmas.{both, word_all}
-use Rattle.cd_text.specs.declared.line.Line.{Line}
 use Rattle.cd_text.specs.declared.line.LineRole.{LineRole}
 use Rattle.cd_text.specs.declared.line.LineRole.TheVariants.{Given, Plain}
 use Rattle.cd_text.specs.declared.line.LineSource.{LineSource}
 use Rattle.cd_text.specs.declared.line.LineSource.TheVariants.{File, Inference}
-use Rattle.cd_text.specs.Texts.{is_printable, shown, shown_byte, quoted, quoted_byte, word_text, label_text, joined, symbol_text, atom_text, literal_text, literals_text, clause_text, term_text, given_text, role_text, name_text, rule_text, source_text, line_text}
-use Rattle.cd_text.specs.Feeds.{feedless, StepFits, SourceFits, LineFits, PrintedWordsHaveNoFeed, PrintedLabelsHaveNoFeed, PrintedClausesHaveNoFeed, PrintedLinesHaveNoFeed}
+use Rattle.cd_text.specs.Texts.{is_printable, shown, shown_byte, quoted, quoted_byte, word_text, joined, symbol_text, atom_text, literal_text, literals_text, clause_text, term_text, given_text, role_text, name_text, rule_text, source_text, line_text}
+use Rattle.cd_text.specs.Feeds.{feedless, StepFits, SourceFits, PrintedWordsHaveNoFeed, PrintedLabelsHaveNoFeed, PrintedClausesHaveNoFeed, PrintedLinesHaveNoFeed}
 
 step : (b c d e : Bool) → e ≡ (c && d) → (b && e) ≡ ((b && c) && d)
 step true c d e h = h

@@ -1,5 +1,5 @@
 -- The printed texts of words, clauses and derivation lines.
-use Rattle.std.specs.Prelude.{◌≡◌, ℕ, Bool, true, false, ◌&&◌, ◌||◌, ◌==◌, nat_le, if◌then◌else◌, List, [], ◌∷◌, ◌++◌, map, codes, decimal, Option, None, Some, slice_get}
+use Rattle.std.specs.Prelude.{ℕ, Bool, ◌&&◌, ◌||◌, ◌==◌, nat_le, if◌then◌else◌, List, [], ◌∷◌, ◌++◌, map, codes, decimal, Option, None, Some, slice_get}
 use Rattle.std.specs.List.{flat_map}
 use Rattle.cd_clause.specs.declared.Term.{Term}
 use Rattle.cd_clause.specs.declared.Atom.{Atom}

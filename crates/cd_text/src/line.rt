@@ -1,11 +1,12 @@
 //! The lines of a derivation.
-ghost use Rattle.std.specs.Prelude.{◌≡◌, ◌++◌, ◌∷◌, codes, decimal, OnOk};
+ghost use Rattle.std.specs.Prelude.{◌≡◌, ◌++◌, ◌∷◌, codes, decimal, OnOk, OnErr};
 ghost use Rattle.std.specs.List.{flat_map};
 ghost use Rattle.cd_read.specs.Problems.{ClauseFormed};
+ghost use Rattle.cd_text.specs.Fronts.{KeepsFront};
 ghost use Rattle.cd_text.specs.Texts.{clause_text, given_text, joined, label_text, line_text, name_text, role_text, rule_text, source_text, term_text};
 
-use crate::clauses::clause_text;
-use crate::words::{put_number, put_quoted, put_word};
+use crate::clauses::put_clause;
+use crate::words::{put_bytes, put_number, put_quoted, put_word};
 use cd_clause::{Clause, Term};
 use cd_list::{Sequence, Text};
 use cd_outside::Bytes;
@@ -43,17 +44,34 @@ pub struct Line {
 /// Lines, each with a number one greater than that of the line before.
 pub type Lines = Sequence<Line>;
 
-/// Appends a derivation line as it is printed, without a line feed.
-#[tactic(auto, using(std::proofs::Common::append_assoc), unfolding(crate::specs::Texts::line_text))]
+/// Appends a derivation line as it is printed, without a line feed. Where memory runs out, `into` is as it was.
+#[tactic(auto, using(crate::proofs::Fronts::kept_front))]
 pub fn line_text(symbols: &Symbols, line: &Line, into: &mut Bytes) -> Result<(), AllocError>
     requires { ClauseFormed symbols.now line.now.clause }
-    ensures { OnOk result (into.new ≡ into.old ++ line_text symbols.now line.now) }
+    ensures ok { OnOk result (into.new ≡ into.old ++ line_text symbols.now line.now) }
+    ensures err { OnErr result (into.new ≡ into.old) }
 {
-    into.extend(b"cnf(")?;
+    let before = into.len();
+    match put_line(symbols, line, into) {
+        Ok(()) => Ok(()),
+        Err(error) => {
+            into.truncate(before);
+            Err(error)
+        }
+    }
+}
+
+#[tactic(auto, using(std::proofs::Common::append_assoc), unfolding(crate::specs::Texts::line_text))]
+fn put_line(symbols: &Symbols, line: &Line, into: &mut Bytes) -> Result<(), AllocError>
+    requires { ClauseFormed symbols.now line.now.clause }
+    ensures text { OnOk result (into.new ≡ into.old ++ line_text symbols.now line.now) }
+    ensures kept { KeepsFront into.old into.new }
+{
+    put_bytes(into, b"cnf(")?;
     put_name(line.number, into)?;
-    into.extend(b",")?;
+    put_bytes(into, b",")?;
     put_role(line.role, into)?;
-    into.extend(b",")?;
+    put_bytes(into, b",")?;
     put_body(symbols, line, into)
 }
 
@@ -61,63 +79,69 @@ pub fn line_text(symbols: &Symbols, line: &Line, into: &mut Bytes) -> Result<(),
 #[tactic(auto, using(std::proofs::Common::append_assoc))]
 fn put_body(symbols: &Symbols, line: &Line, into: &mut Bytes) -> Result<(), AllocError>
     requires { ClauseFormed symbols.now line.now.clause }
-    ensures { OnOk result (into.new ≡ into.old ++ (clause_text symbols.now line.now.clause
+    ensures text { OnOk result (into.new ≡ into.old ++ (clause_text symbols.now line.now.clause
         ++ (codes "," ++ (source_text symbols.now line.now.source ++ codes ").")))) }
+    ensures kept { KeepsFront into.old into.new }
 {
-    clause_text(symbols, &line.clause, into)?;
-    into.extend(b",")?;
+    put_clause(symbols, &line.clause, into)?;
+    put_bytes(into, b",")?;
     put_source(symbols, &line.source, into)?;
-    into.extend(b").")
+    put_bytes(into, b").")
 }
 
 fn put_name(number: u64, into: &mut Bytes) -> Result<(), AllocError>
-    ensures { OnOk result (into.new ≡ into.old ++ name_text number) }
+    ensures text { OnOk result (into.new ≡ into.old ++ name_text number) }
+    ensures kept { KeepsFront into.old into.new }
 {
-    into.extend(b"c")?;
+    put_bytes(into, b"c")?;
     put_number(into, number)
 }
 
 fn put_role(role: LineRole, into: &mut Bytes) -> Result<(), AllocError>
-    ensures { OnOk result (into.new ≡ into.old ++ role_text role) }
+    ensures text { OnOk result (into.new ≡ into.old ++ role_text role) }
+    ensures kept { KeepsFront into.old into.new }
 {
     match role {
         LineRole::Given(given) => put_given(given, into),
-        LineRole::Plain => into.extend(b"plain"),
+        LineRole::Plain => put_bytes(into, b"plain"),
     }
 }
 
 fn put_given(role: Role, into: &mut Bytes) -> Result<(), AllocError>
-    ensures { OnOk result (into.new ≡ into.old ++ given_text role) }
+    ensures text { OnOk result (into.new ≡ into.old ++ given_text role) }
+    ensures kept { KeepsFront into.old into.new }
 {
     match role {
-        Role::Axiom => into.extend(b"axiom"),
+        Role::Axiom => put_bytes(into, b"axiom"),
     }
 }
 
 #[tactic(auto, using(std::proofs::Common::append_assoc), unfolding(crate::specs::Texts::source_text))]
 fn put_source(symbols: &Symbols, source: &LineSource, into: &mut Bytes) -> Result<(), AllocError>
-    ensures { OnOk result (into.new ≡ into.old ++ source_text symbols.now source.now) }
+    ensures text { OnOk result (into.new ≡ into.old ++ source_text symbols.now source.now) }
+    ensures kept { KeepsFront into.old into.new }
 {
     match source {
         LineSource::File { path, label } => {
-            into.extend(b"file(")?;
+            put_bytes(into, b"file(")?;
             put_quoted(into, path.as_bytes())?;
-            into.extend(b",")?;
+            put_bytes(into, b",")?;
             put_label(label, into)?;
-            into.extend(b")")
+            put_bytes(into, b")")
         }
         LineSource::Inference { step, parents } => {
-            into.extend(b"inference(")?;
+            put_bytes(into, b"inference(")?;
             put_rule(symbols, step, into)?;
-            into.extend(b",[")?;
+            put_bytes(into, b",[")?;
             put_parents(parents.as_slice(), into)?;
-            into.extend(b"])")
+            put_bytes(into, b"])")
         }
     }
 }
 
 fn put_label(label: &Label, into: &mut Bytes) -> Result<(), AllocError>
-    ensures { OnOk result (into.new ≡ into.old ++ label_text label.now) }
+    ensures text { OnOk result (into.new ≡ into.old ++ label_text label.now) }
+    ensures kept { KeepsFront into.old into.new }
 {
     match label {
         Label::Word(word) => put_word(into, word.as_bytes()),
@@ -126,7 +150,8 @@ fn put_label(label: &Label, into: &mut Bytes) -> Result<(), AllocError>
 
 #[tactic(auto, using(std::proofs::Common::append_assoc), unfolding(crate::specs::Texts::rule_text))]
 fn put_rule(symbols: &Symbols, step: &Step, into: &mut Bytes) -> Result<(), AllocError>
-    ensures { OnOk result (into.new ≡ into.old ++ rule_text symbols.now step.now) }
+    ensures text { OnOk result (into.new ≡ into.old ++ rule_text symbols.now step.now) }
+    ensures kept { KeepsFront into.old into.new }
 {
     match step {
         Step::Input { index: _ } => Ok(()),
@@ -151,27 +176,30 @@ fn put_rule(symbols: &Symbols, step: &Step, into: &mut Bytes) -> Result<(), Allo
 // Two places of literals behind what stands before them.
 #[tactic(auto, using(std::proofs::Common::append_assoc))]
 fn put_places(front: &[u8], i: u64, j: u64, into: &mut Bytes) -> Result<(), AllocError>
-    ensures { OnOk result (into.new ≡ into.old ++ (front.now ++ (decimal i ++ (codes "," ++ decimal j)))) }
+    ensures text { OnOk result (into.new ≡ into.old ++ (front.now ++ (decimal i ++ (codes "," ++ decimal j)))) }
+    ensures kept { KeepsFront into.old into.new }
 {
-    into.extend(front)?;
+    put_bytes(into, front)?;
     put_number(into, i)?;
-    into.extend(b",")?;
+    put_bytes(into, b",")?;
     put_number(into, j)
 }
 
 // The end of a rule: its substitution.
 #[tactic(auto, using(std::proofs::Common::append_assoc))]
 fn put_subst(symbols: &Symbols, subst: &[Term], into: &mut Bytes) -> Result<(), AllocError>
-    ensures { OnOk result (into.new ≡ into.old ++ (codes "),subst([" ++ (joined (codes ",") (term_text symbols.now) subst.now ++ codes "])]"))) }
+    ensures text { OnOk result (into.new ≡ into.old ++ (codes "),subst([" ++ (joined (codes ",") (term_text symbols.now) subst.now ++ codes "])]"))) }
+    ensures kept { KeepsFront into.old into.new }
 {
-    into.extend(b"),subst([")?;
+    put_bytes(into, b"),subst([")?;
     put_terms(symbols, subst, into)?;
-    into.extend(b"])]")
+    put_bytes(into, b"])]")
 }
 
 // Terms with commas between them. As there are no terms so far, there are none in the list.
 fn put_terms(_symbols: &Symbols, terms: &[Term], _into: &mut Bytes) -> Result<(), AllocError>
-    ensures { OnOk result (_into.new ≡ _into.old ++ joined (codes ",") (term_text _symbols.now) terms.now) }
+    ensures text { OnOk result (_into.new ≡ _into.old ++ joined (codes ",") (term_text _symbols.now) terms.now) }
+    ensures kept { KeepsFront _into.old _into.new }
 {
     match terms {
         [] => Ok(()),
@@ -180,7 +208,8 @@ fn put_terms(_symbols: &Symbols, terms: &[Term], _into: &mut Bytes) -> Result<()
 }
 
 fn put_parents(parents: &[u64], into: &mut Bytes) -> Result<(), AllocError>
-    ensures { OnOk result (into.new ≡ into.old ++ joined (codes ",") name_text parents.now) }
+    ensures text { OnOk result (into.new ≡ into.old ++ joined (codes ",") name_text parents.now) }
+    ensures kept { KeepsFront into.old into.new }
 {
     match parents {
         [] => Ok(()),
@@ -190,7 +219,8 @@ fn put_parents(parents: &[u64], into: &mut Bytes) -> Result<(), AllocError>
 
 #[tactic(auto, using(std::proofs::Common::append_assoc, crate::proofs::Joined::joined_first))]
 fn put_names(first: u64, others: &[u64], into: &mut Bytes) -> Result<(), AllocError>
-    ensures { OnOk result (into.new ≡ into.old ++ joined (codes ",") name_text (first ∷ others.now)) }
+    ensures text { OnOk result (into.new ≡ into.old ++ joined (codes ",") name_text (first ∷ others.now)) }
+    ensures kept { KeepsFront into.old into.new }
 {
     put_name(first, into)?;
     put_further(others, into)
@@ -198,10 +228,11 @@ fn put_names(first: u64, others: &[u64], into: &mut Bytes) -> Result<(), AllocEr
 
 #[tactic(auto, using(std::proofs::Common::append_assoc))]
 fn put_further(parents: &[u64], into: &mut Bytes) -> Result<(), AllocError>
-    ensures { OnOk result (into.new ≡ into.old ++ flat_map (λ n. codes "," ++ name_text n) parents.now) }
+    ensures text { OnOk result (into.new ≡ into.old ++ flat_map (λ n. codes "," ++ name_text n) parents.now) }
+    ensures kept { KeepsFront into.old into.new }
 {
     for parent in parents {
-        into.extend(b",")?;
+        put_bytes(into, b",")?;
         put_name(*parent, into)?;
     }
     Ok(())

@@ -1,27 +1,45 @@
-//! Numbers and words.
-ghost use Rattle.std.specs.Prelude.{◌≡◌, ◌++◌, decimal, OnOk};
+//! Numbers and words. Where memory runs out, what stood before still stands at the front.
+ghost use Rattle.std.specs.Prelude.{◌≡◌, ◌++◌, ◌∷◌, [], decimal, OnOk};
 ghost use Rattle.std.specs.List.{flat_map, list_all};
 ghost use Rattle.cd_read.specs.Words.{is_lower, is_word, is_word_byte};
+ghost use Rattle.cd_text.specs.Fronts.{KeepsFront};
 ghost use Rattle.cd_text.specs.Texts.{quoted, quoted_byte, shown, shown_byte, word_text};
 
 use cd_outside::Bytes;
 use itoa::Buffer;
 use std::alloc::AllocError;
 
+/// Appends these bytes.
+pub(crate) fn put_bytes(into: &mut Bytes, bytes: &[u8]) -> Result<(), AllocError>
+    ensures text { OnOk result (into.new ≡ into.old ++ bytes.now) }
+    ensures kept { KeepsFront into.old into.new }
+{
+    into.extend(bytes)
+}
+
+fn put_byte(into: &mut Bytes, b: u8) -> Result<(), AllocError>
+    ensures text { OnOk result (into.new ≡ into.old ++ b ∷ []) }
+    ensures kept { KeepsFront into.old into.new }
+{
+    into.push(b)
+}
+
 /// Appends the decimal digits of `n`.
 pub fn put_number(into: &mut Bytes, n: u64) -> Result<(), AllocError>
-    ensures { OnOk result (into.new ≡ into.old ++ decimal n) }
+    ensures text { OnOk result (into.new ≡ into.old ++ decimal n) }
+    ensures kept { KeepsFront into.old into.new }
 {
     let mut buffer = Buffer::new();
-    into.extend(buffer.format(n).as_bytes())
+    put_bytes(into, buffer.format(n).as_bytes())
 }
 
 /// Appends a text in which each byte outside 32 to 126 is a question mark.
 pub fn put_shown(into: &mut Bytes, text: &[u8]) -> Result<(), AllocError>
-    ensures { OnOk result (into.new ≡ into.old ++ shown text.now) }
+    ensures text { OnOk result (into.new ≡ into.old ++ shown text.now) }
+    ensures kept { KeepsFront into.old into.new }
 {
     for b in text {
-        into.push(shown_byte(*b))?;
+        put_byte(into, shown_byte(*b))?;
     }
     Ok(())
 }
@@ -36,15 +54,17 @@ fn shown_byte(b: u8) -> u8
 /// byte outside 32 to 126 is a question mark.
 #[tactic(auto, using(std::proofs::Common::append_assoc), unfolding(crate::specs::Texts::quoted))]
 pub fn put_quoted(into: &mut Bytes, text: &[u8]) -> Result<(), AllocError>
-    ensures { OnOk result (into.new ≡ into.old ++ quoted text.now) }
+    ensures text { OnOk result (into.new ≡ into.old ++ quoted text.now) }
+    ensures kept { KeepsFront into.old into.new }
 {
-    into.extend(b"'")?;
+    put_bytes(into, b"'")?;
     put_inside(into, text)?;
-    into.extend(b"'")
+    put_bytes(into, b"'")
 }
 
 fn put_inside(into: &mut Bytes, text: &[u8]) -> Result<(), AllocError>
-    ensures { OnOk result (into.new ≡ into.old ++ flat_map quoted_byte text.now) }
+    ensures text { OnOk result (into.new ≡ into.old ++ flat_map quoted_byte text.now) }
+    ensures kept { KeepsFront into.old into.new }
 {
     for b in text {
         put_quoted_byte(into, *b)?;
@@ -53,22 +73,24 @@ fn put_inside(into: &mut Bytes, text: &[u8]) -> Result<(), AllocError>
 }
 
 fn put_quoted_byte(into: &mut Bytes, b: u8) -> Result<(), AllocError>
-    ensures { OnOk result (into.new ≡ into.old ++ quoted_byte b) }
+    ensures text { OnOk result (into.new ≡ into.old ++ quoted_byte b) }
+    ensures kept { KeepsFront into.old into.new }
 {
     if b == b'\'' || b == b'\\' {
-        into.push(b'\\')?;
-        into.push(b)
+        put_byte(into, b'\\')?;
+        put_byte(into, b)
     } else {
-        into.push(shown_byte(b))
+        put_byte(into, shown_byte(b))
     }
 }
 
 /// Appends a text as a word: bare where it is a lower word, and else quoted.
 pub fn put_word(into: &mut Bytes, text: &[u8]) -> Result<(), AllocError>
-    ensures { OnOk result (into.new ≡ into.old ++ word_text text.now) }
+    ensures text { OnOk result (into.new ≡ into.old ++ word_text text.now) }
+    ensures kept { KeepsFront into.old into.new }
 {
     if is_word(text) {
-        into.extend(text)
+        put_bytes(into, text)
     } else {
         put_quoted(into, text)
     }
