@@ -37,18 +37,6 @@ pub struct Clause {
     pub literals: Literals,
 }
 
-impl Copied for Term {
-    fn copy(&self, _alloc: Global) -> Result<Term, AllocError> {
-        match *self {}
-    }
-}
-
-impl Equals for Term {
-    fn equals(&self, _other: &Term) -> bool {
-        match *self {}
-    }
-}
-
 impl Copied for Atom {
     fn copy(&self, _alloc: Global) -> Result<Atom, AllocError> {
         match self {

@@ -7,6 +7,7 @@ use Rattle.cd_ledger.specs.declared.Local.{Local}
 use Rattle.cd_ledger.specs.declared.Verdict.{Verdict}
 use Rattle.cd_ledger.specs.declared.Verdict.TheVariants as verdict
 use Rattle.cd_ledger.specs.Machine.{IsQuiet}
+use Rattle.cd_peer.specs.Ready.{IsReady}
 use Rattle.cd_ledger.specs.World.{World, Run, start_world, has_empty, work_count, EndsWith}
 
 -- the world of one peer
@@ -31,6 +32,7 @@ pub record IsReached (p : Problem) (limits : Limits) (s : Local) : Type 0 where
 -- and the peer has a verdict there
 pub record IsFinished (p : Problem) (limits : Limits) (s : Local) : Type 0 where
   pub reached : IsReached p limits s
+  pub ready : IsReady s
   pub ended : IsSome s.verdict
 
 abbrev pub open_count : Option Verdict → ℕ

@@ -64,17 +64,15 @@ impl Copied for Step {
                 i,
                 neg,
                 j,
-                subst,
-            } => {
-                let subst = subst.copy(alloc)?;
-                Ok(Step::Resolve {
-                    pos: *pos,
-                    i: *i,
-                    neg: *neg,
-                    j: *j,
-                    subst,
-                })
-            }
+                subst: _,
+            } => Ok(Step::Resolve {
+                pos: *pos,
+                i: *i,
+                neg: *neg,
+                j: *j,
+                // A list of terms is empty, since there are none.
+                subst: Sequence::new(alloc),
+            }),
         }
     }
 }

@@ -34,5 +34,6 @@ turns-preserved c =
 pub returns : goal.returns
 returns c = record {
   reached = c.turns.invariant.reached;
+  ready = c.turns.invariant.ready;
   ended = some_is c.turns.local.verdict c.is_none.result c.is_none.ensures c.turns-test.false;
 }

@@ -1,0 +1,173 @@
+-- What the top call promises of its answer.
+use Rattle.std.specs.Prelude.{◌≡◌, ℕ, ◌+◌, ◌⊎◌, ⊤, Bool, true, false, if◌then◌else◌, List, [], ◌∷◌, map, Option, None, Some}
+use Rattle.std.specs.Io.KnownBytes.{Appends}
+use Rattle.std.specs.declared.result.Result.TheVariants.{Ok, Err}
+use Rattle.cd_clause.specs.Truth.{HaveNoModel}
+use Rattle.cd_outside.specs.Outside.{AppendsFront, Gives}
+use Rattle.cd_read.specs.declared.problem.Problem.{Problem}
+use Rattle.cd_read.specs.Problems.{Reads}
+use Rattle.cd_read.specs.Fetched.{Told}
+use Rattle.cd_check.specs.Accepted.{AcceptedText, input_clauses}
+use Rattle.cd_ledger.specs.declared.Act.TheVariants.{End}
+use Rattle.cd_ledger.specs.declared.Local.{Local}
+use Rattle.cd_ledger.specs.declared.Verdict.{Verdict}
+use Rattle.cd_ledger.specs.declared.Verdict.TheVariants as verdict
+use Rattle.cd_ledger.specs.World.{World, Run, IsClosed, start_world, recorded, journal_of, has_empty, work_count, EndsWith}
+use Rattle.cd_laws.specs.Right.{records_of}
+use Rattle.cd_build.specs.Derivation.{derivation_of}
+use Rattle.cd_top.specs.declared.answer.Answer.{Answer}
+use Rattle.cd_top.specs.declared.answer.Answer.TheVariants.{Refuted, Saturated, Spent, Usage, Refused, LibraryFault, SinkFault, Memory}
+use Rattle.cd_top.specs.declared.answer.Account.{Account}
+use Rattle.cd_top.specs.Texts.{refuted_text, saturated_text, spent_text, usage_text, refused_text, unread_text}
+
+-- ---- the exit status
+
+abbrev pub status_of : Answer → ℕ
+status_of (Refuted peer) = 0
+status_of Saturated = 1
+status_of (Spent peer) = 2
+status_of Usage = 64
+status_of (Refused wrong) = 65
+status_of (LibraryFault path) = 66
+status_of Memory = 71
+status_of SinkFault = 74
+
+-- ---- words and files
+
+-- the problem that the told bytes spell
+pub record IsProblemRead (word : Option (List ℕ)) (before now : Told) (problem : Option Problem) : Type 0 where
+  pub path : List ℕ
+  pub bytes : List ℕ
+  pub read : Problem
+  pub word_is : word ≡ Some path
+  pub problem_is : problem ≡ Some read
+  pub told : Gives before now ((path, bytes) ∷ [])
+  pub reads : Reads path bytes (Ok read)
+
+-- what was told of the files, and the problem, are those of the answer: words that are one path lead to its file, and what is told of it to
+-- the problem or to its fault. Want of memory is free
+abbrev pub IsRead : Option (List ℕ) → Told → Told → Answer → Option Problem → Type 0
+IsRead word before now Usage problem = (word ≡ None) × (problem ≡ None) × Gives before now []
+IsRead word before now (Refused w) problem =
+    (path : List ℕ) × (bytes : List ℕ) × (word ≡ Some path) × (problem ≡ None) × Gives before now ((path, bytes) ∷ []) × Reads path bytes (Err w)
+IsRead word before now (LibraryFault path) problem = (word ≡ Some path) × (problem ≡ None) × Gives before now []
+IsRead word before now Memory problem = problem ≡ None
+IsRead word before now SinkFault problem = ⊥
+IsRead word before now (Refuted peer) problem = IsProblemRead word before now problem
+IsRead word before now Saturated problem = IsProblemRead word before now problem
+IsRead word before now (Spent peer) problem = IsProblemRead word before now problem
+
+abbrev pub IsLibraryFault : Answer → Type 0
+IsLibraryFault (LibraryFault path) = ⊤
+IsLibraryFault (Refuted peer) = ⊥
+IsLibraryFault Saturated = ⊥
+IsLibraryFault (Spent peer) = ⊥
+IsLibraryFault Usage = ⊥
+IsLibraryFault (Refused w) = ⊥
+IsLibraryFault SinkFault = ⊥
+IsLibraryFault Memory = ⊥
+
+-- ---- the recorded run
+
+-- the account's journals, taken in the account's order, lead from the problem's start to this world, and are used up
+pub record IsRecorded (account : Account) (p : Problem) (w : World) : Type 0 where
+  pub run : Run (start_world p account.limits) (recorded account.journals account.order) w
+  pub journals : map journal_of w.locals ≡ account.journals
+
+-- the least peer that recorded the empty clause, peers being counted from k, and its state
+abbrev pub least_refuted : ℕ → List Local → Option (ℕ × Local)
+least_refuted k [] = None
+least_refuted k (s ∷ ss) = if has_empty s.known then Some (k, s) else least_refuted (k + 1) ss
+
+abbrev pub is_spent : Option Verdict → Bool
+is_spent None = false
+is_spent (Some verdict.Refuted) = false
+is_spent (Some verdict.Saturated) = false
+is_spent (Some verdict.Spent) = true
+
+-- the least peer that ended at its limit
+abbrev pub least_spent : ℕ → List Local → Option (ℕ × Local)
+least_spent k [] = None
+least_spent k (s ∷ ss) = if is_spent s.verdict then Some (k, s) else least_spent (k + 1) ss
+
+-- the empty clause was recorded, by this peer as the least: its derivation is printed, and the text is accepted
+pub record EndsRefuted (account : Account) (p : Problem) (w : World) (peer : ℕ) : Type 0 where
+  pub state : Local
+  pub least : least_refuted 0 w.locals ≡ Some (peer, state)
+  pub text : account.text ≡ refuted_text p (derivation_of p state)
+  pub accepted : AcceptedText p account.text
+
+-- no empty clause was recorded, and nothing travels, is pending or is owed: the held clauses are printed
+pub record EndsSaturated (account : Account) (p : Problem) (w : World) : Type 0 where
+  pub none : least_refuted 0 w.locals ≡ None
+  pub closed : IsClosed w
+  pub state : Local
+  pub alone : w.locals ≡ state ∷ []
+  pub text : account.text ≡ saturated_text p account.peers (records_of state)
+
+-- no empty clause was recorded, and this peer is the least that did as many tasks as it may and ended there
+pub record EndsSpent (account : Account) (p : Problem) (w : World) (peer : ℕ) : Type 0 where
+  pub none : least_refuted 0 w.locals ≡ None
+  pub state : Local
+  pub least : least_spent 0 w.locals ≡ Some (peer, state)
+  pub units : work_count state.journal ≡ account.limits.steps
+  pub ends : EndsWith state.journal (End verdict.Spent)
+  pub text : account.text ≡ spent_text p peer account.limits.steps
+
+-- with a problem read, the answer has its cause in the world at the end of the recorded run, and the text is the answer's
+abbrev pub EndsIn : Account → Problem → World → Answer → Type 0
+EndsIn account p w (Refuted peer) = EndsRefuted account p w peer
+EndsIn account p w Saturated = EndsSaturated account p w
+EndsIn account p w (Spent peer) = EndsSpent account p w peer
+EndsIn account p w Usage = ⊥
+EndsIn account p w (Refused wrong) = ⊥
+EndsIn account p w (LibraryFault path) = ⊥
+EndsIn account p w SinkFault = ⊥
+EndsIn account p w Memory = ⊥
+
+abbrev pub RunEnds : Account → Answer → Option Problem → Type 0
+RunEnds account made None = (account.journals ≡ []) × (account.order ≡ [])
+RunEnds account made (Some p) = (w : World) × IsRecorded account p w × EndsIn account p w made
+
+-- after a refutation no finite interpretation satisfies the problem's clauses
+abbrev pub HasNoModel : Option Problem → Type 0
+HasNoModel None = ⊥
+HasNoModel (Some p) = HaveNoModel (input_clauses p.inputs)
+
+abbrev pub Refutes : Answer → Option Problem → Type 0
+Refutes (Refuted peer) problem = HasNoModel problem
+Refutes Saturated problem = ⊤
+Refutes (Spent peer) problem = ⊤
+Refutes Usage problem = ⊤
+Refutes (Refused w) problem = ⊤
+Refutes (LibraryFault path) problem = ⊤
+Refutes SinkFault problem = ⊤
+Refutes Memory problem = ⊤
+
+-- ---- the text
+
+-- the text of an answer without a run; with want of memory nothing is to be written
+abbrev pub TextIs : Answer → List ℕ → Type 0
+TextIs Usage text = text ≡ usage_text
+TextIs (Refused w) text = text ≡ refused_text w
+TextIs (LibraryFault path) text = text ≡ unread_text path
+TextIs Memory text = text ≡ []
+TextIs (Refuted peer) text = ⊤
+TextIs Saturated text = ⊤
+TextIs (Spent peer) text = ⊤
+TextIs SinkFault text = ⊥
+
+-- the sink took the text, or with its fault a front of it
+abbrev pub Taken : Answer → Option (List ℕ) → Option (List ℕ) → List ℕ → Type 0
+Taken SinkFault before now text = AppendsFront before now text
+Taken (Refuted peer) before now text = Appends before now text
+Taken Saturated before now text = Appends before now text
+Taken (Spent peer) before now text = Appends before now text
+Taken Usage before now text = Appends before now text
+Taken (Refused w) before now text = Appends before now text
+Taken (LibraryFault path) before now text = Appends before now text
+Taken Memory before now text = Appends before now text
+
+-- an answer is the one that was made, unless the sink failed; the one that was made is no fault of the sink
+abbrev pub IsAnswerTo : Answer → Answer → Type 0
+IsAnswerTo made answer = (made ≡ SinkFault → ⊥) × ((answer ≡ made) ⊎ (answer ≡ SinkFault))

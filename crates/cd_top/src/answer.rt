@@ -1,0 +1,92 @@
+//! What the top call answers.
+ghost use Rattle.std.specs.Prelude.{◌≡◌};
+
+use cd_ledger::{Journals, Limits};
+use cd_list::{Copied, Sequence, Text};
+use cd_outside::Bytes;
+use cd_read::{Problem, Wrong};
+use std::alloc::{AllocError, Global};
+
+/// How a call ended.
+#[derive(Drop)]
+pub enum Answer {
+    /// A peer recorded the empty clause: the problem has no model. `peer` is the least such peer.
+    Refuted { peer: u16 },
+    /// Nothing is left to be done.
+    Saturated,
+    /// A peer did as many tasks as it may; `peer` is the least such peer.
+    Spent { peer: u16 },
+    /// The words aren't one path.
+    Usage,
+    /// The file isn't as it should be.
+    Refused(Wrong),
+    /// The library failed at the file with this path.
+    LibraryFault { path: Text },
+    /// The sink failed: it took a front of the text.
+    SinkFault,
+    /// Memory ran out, and nothing was written.
+    Memory,
+}
+
+impl Answer {
+    ghost use Rattle.cd_top.specs.Headline.{status_of};
+
+    /// The exit status of the program.
+    pub fn status(&self) -> u8
+        ensures { result ≡ status_of self.now }
+    {
+        match self {
+            Answer::Refuted { .. } => 0,
+            Answer::Saturated => 1,
+            Answer::Spent { .. } => 2,
+            Answer::Usage => 64,
+            Answer::Refused(_) => 65,
+            Answer::LibraryFault { .. } => 66,
+            Answer::Memory => 71,
+            Answer::SinkFault => 74,
+        }
+    }
+}
+
+impl Copied for Answer {
+    fn copy(&self, alloc: Global) -> Result<Answer, AllocError> {
+        match self {
+            Answer::Refuted { peer } => Ok(Answer::Refuted { peer: *peer }),
+            Answer::Saturated => Ok(Answer::Saturated),
+            Answer::Spent { peer } => Ok(Answer::Spent { peer: *peer }),
+            Answer::Usage => Ok(Answer::Usage),
+            Answer::Refused(wrong) => Ok(Answer::Refused(wrong.copy(alloc)?)),
+            Answer::LibraryFault { path } => {
+                let path = path.copy(alloc)?;
+                Ok(Answer::LibraryFault { path })
+            }
+            Answer::SinkFault => Ok(Answer::SinkFault),
+            Answer::Memory => Ok(Answer::Memory),
+        }
+    }
+}
+
+/// The numbers of peers, one for each event of a run.
+pub type Turns = Sequence<u16>;
+
+/// What a call leaves to be looked at: the problem that was read, the journal of each peer, the peer of each
+/// event in the order of the run, and the text that was to be written.
+#[derive(Drop)]
+pub struct Account {
+    pub problem: Option<Problem>,
+    pub peers: u16,
+    pub limits: Limits,
+    pub journals: Journals,
+    pub order: Turns,
+    pub text: Bytes,
+}
+
+/// The exit status, the answer, and the answer as it was before the first write: `made` equals `answer`
+/// unless that is `SinkFault`.
+#[derive(Drop)]
+pub struct Outcome {
+    pub status: u8,
+    pub answer: Answer,
+    pub made: Answer,
+    pub account: Account,
+}

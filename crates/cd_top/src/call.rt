@@ -1,0 +1,152 @@
+//! The call that the program makes.
+ghost use Rattle.std.specs.Prelude.{◌≡◌, ◌≢◌, ◌<◌, [], None, length, IfOk};
+ghost use Rattle.std.specs.Option.{option_copied};
+ghost use Rattle.cd_outside.specs.Outside.{Rose};
+ghost use Rattle.cd_top.specs.Words.{file_word, begins_with_hyphen};
+ghost use Rattle.cd_top.specs.Headline.{status_of, IsRead, IsLibraryFault, RunEnds, Refutes, TextIs, Taken, IsAnswerTo};
+
+use crate::answer::{Account, Answer, Outcome};
+use crate::sending::send;
+use crate::solving::{STEPS, solve};
+use crate::texts::{refused_text, unread_text};
+use cd_ledger::Limits;
+use cd_list::{Copied, Sequence, Text};
+use cd_outside::{Bytes, Gate, Library, Sink};
+use cd_read::{ReadFault, read_problem};
+use std::alloc::{AllocError, Global};
+use std::sync::Wait;
+use std::thread::Threads;
+
+/// Reads the file that the words name, searches for a refutation, and writes what came of it. The words are
+/// those behind the program's name. So far one peer runs, and the gate isn't entered.
+///
+/// The library and the sink say by their counts when they failed, and may tell what they gave and took.
+pub fn prove<R: Threads + Wait + Sync, L: Library, K: Sink, G: Gate + Sync>(
+    _rt: &R,
+    alloc: Global,
+    words: &[Text],
+    library: &mut L,
+    sink: &mut K,
+    _gate: &G,
+) -> Outcome
+    // The words name a file, and its bytes spell the problem.
+    ensures read { IsRead (file_word words.now) (L.told library.old) (L.told library.new) result.made result.account.problem }
+    ensures library_fault { IsLibraryFault result.made → Rose (L.faults library.old) (L.faults library.new) }
+
+    // The recorded run ends where the answer says, and a refutation is one.
+    ensures run { RunEnds result.account result.made result.account.problem }
+    ensures refutes { Refutes result.made result.account.problem }
+
+    // The text, and what the sink took of it.
+    ensures text { TextIs result.made result.account.text }
+    ensures taken { Taken result.answer (K.taken sink.old) (K.taken sink.new) result.account.text }
+    ensures sink_fault { result.answer ≡ Answer.SinkFault → Rose (K.faults sink.old) (K.faults sink.new) }
+
+    ensures answer { IsAnswerTo result.made result.answer }
+    ensures status { result.status ≡ status_of result.answer }
+{
+    let Ok((made, account)) = make(alloc, words, library) else {
+        return without_memory(alloc);
+    };
+    let Ok(copy) = made.copy(alloc) else {
+        return without_memory(alloc);
+    };
+    let answer = match send(sink, account.text.as_slice()) {
+        Ok(()) => copy,
+        Err(_) => Answer::SinkFault,
+    };
+    Outcome {
+        status: answer.status(),
+        answer,
+        made,
+        account,
+    }
+}
+
+fn without_memory(alloc: Global) -> Outcome
+    ensures made { result.made ≡ Answer.Memory }
+    ensures answer { result.answer ≡ Answer.Memory }
+    ensures status { result.status ≡ 71 }
+    ensures text { result.account.text ≡ [] }
+    ensures problem { result.account.problem ≡ None }
+    ensures journals { result.account.journals ≡ [] }
+    ensures order { result.account.order ≡ [] }
+{
+    Outcome {
+        status: 71,
+        answer: Answer::Memory,
+        made: Answer::Memory,
+        account: without_run(alloc, Sequence::new(alloc)),
+    }
+}
+
+fn without_run(alloc: Global, text: Bytes) -> Account
+    ensures text { result.text ≡ text }
+    ensures problem { result.problem ≡ None }
+    ensures journals { result.journals ≡ [] }
+    ensures order { result.order ≡ [] }
+{
+    Account {
+        problem: None,
+        peers: 1,
+        limits: Limits { steps: STEPS },
+        journals: Sequence::new(alloc),
+        order: Sequence::new(alloc),
+        text,
+    }
+}
+
+fn file_word(words: &[Text]) -> Option<&Text>
+    ensures { option_copied result ≡ file_word words.now }
+{
+    match words {
+        [word] => {
+            if begins_with_hyphen(word.as_bytes()) {
+                None
+            } else {
+                Some(word)
+            }
+        }
+        _ => None,
+    }
+}
+
+// Everything before the first write.
+fn make<L: Library>(
+    alloc: Global,
+    words: &[Text],
+    library: &mut L,
+) -> Result<(Answer, Account), AllocError>
+    ensures read { IfOk result (λ r. IsRead (file_word words.now) (L.told library.old) (L.told library.new) r.0 r.1.problem) }
+    ensures library_fault { IfOk result (λ r. IsLibraryFault r.0 → Rose (L.faults library.old) (L.faults library.new)) }
+    ensures run { IfOk result (λ r. RunEnds r.1 r.0 r.1.problem) }
+    ensures refutes { IfOk result (λ r. Refutes r.0 r.1.problem) }
+    ensures text { IfOk result (λ r. TextIs r.0 r.1.text) }
+    ensures first { IfOk result (λ r. r.0 ≢ Answer.SinkFault) }
+{
+    let Some(path) = file_word(words) else {
+        let text = Sequence::from_slice(alloc, b"% aquarius usage\n")?;
+        return Ok((Answer::Usage, without_run(alloc, text)));
+    };
+    match read_problem(alloc, library, path) {
+        Err(ReadFault::Memory) => Err(AllocError),
+        Err(ReadFault::Library { path }) => {
+            let text = unread_text(alloc, &path)?;
+            Ok((Answer::LibraryFault { path }, without_run(alloc, text)))
+        }
+        Err(ReadFault::Wrong(wrong)) => {
+            let text = refused_text(alloc, &wrong)?;
+            Ok((Answer::Refused(wrong), without_run(alloc, text)))
+        }
+        Ok(problem) => solve(alloc, problem),
+    }
+}
+
+fn begins_with_hyphen(word: &[u8]) -> bool
+    ensures { result ≡ begins_with_hyphen word.now }
+{
+    match word {
+        [b'-', ..] => true,
+        _ => false,
+    }
+}
