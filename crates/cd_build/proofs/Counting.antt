@@ -1,5 +1,5 @@
 -- The lines that are built from the marks are those of the derivation.
-use Rattle.std.proofs.Common.{◌≡◌, ◌≢◌, ℕ, zero, suc, ◌+◌, ◌<◌, ◌≤◌, ◌⊎◌, inl, inr, Bool, true, false, cond, List, [], ◌∷◌, ◌++◌, length, map, take, drop, Some, slice_get, get_or, unwrap_or, refl, sym, ap, ◌∙◌, subst, arith, append_assoc, append-nil}
+use Rattle.std.proofs.Common.{◌≡◌, ℕ, zero, suc, ◌+◌, ◌<◌, ◌≤◌, ◌⊎◌, inl, inr, Bool, true, false, cond, List, [], ◌∷◌, ◌++◌, length, map, take, drop, Some, slice_get, get_or, unwrap_or, refl, sym, ap, ◌∙◌, subst, arith, append_assoc, append-nil}
 use Rattle.std.specs.List.{AllByRecursion, filter}
 use Rattle.std.proofs.lemmas.List.{length-append}
 use Rattle.std.proofs.lemmas.List.Elements.{filter-append}
@@ -16,8 +16,8 @@ use Rattle.cd_ledger.specs.declared.Record.{Record}
 use Rattle.cd_ledger.specs.declared.Verdict.TheVariants.{Refuted}
 use Rattle.cd_ledger.specs.Names.{name_eq, cites_of}
 use Rattle.cd_laws.specs.Right.{record_of, IsNamed, AreStepsRight, IsRecordRight, AreRecordsRight, IsRight}
-use Rattle.cd_build.specs.Derivation.{is_wanted, choose, last_names, number_of, role_of, source_of, lines_of_steps, lines_from, derivation_of}
-use Rattle.cd_build.specs.Marks.{place_name, all_wanted, AreMarks, is_marked, source_by, line_by, lines_by}
+use Rattle.cd_build.specs.Derivation.{is_wanted, choose, last_names, number_of, role_of, lines_of_steps, lines_from, derivation_of}
+use Rattle.cd_build.specs.Marks.{place_name, all_wanted, AreMarks, is_marked, lines_by}
 use Rattle.cd_build.proofs.Choosing.{same_name, other_name, first_cited, second_cited, wanted_in, closed, find_named}
 use Rattle.cd_build.proofs.Numbering.{lines_append}
 use Rattle.cd_build.proofs.Refuting.{whole, ends_right}

@@ -3,3 +3,4 @@ pub mod Numbering
 pub mod Refuting
 pub mod Marking
 pub mod Counting
+pub mod RowLemmas

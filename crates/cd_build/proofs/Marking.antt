@@ -9,7 +9,7 @@ use Rattle.cd_ledger.specs.declared.Record.{Record}
 use Rattle.cd_ledger.specs.Names.{name_eq}
 use Rattle.cd_laws.specs.Right.{record_of, AreRecordsRight}
 use Rattle.cd_build.specs.Derivation.{Chosen, choose, is_wanted, last_names, with_record}
-use Rattle.cd_build.specs.Marks.{place_name, all_wanted, AreMarks, is_marked, IsPlace, ArePlaced, marked}
+use Rattle.cd_build.specs.Marks.{place_name, AreMarks, is_marked, IsPlace, ArePlaced, marked}
 use Rattle.cd_build.proofs.Choosing.{same_name, other_name, same_parts, wanted_append, cites_placed}
 
 -- ---- marks

@@ -1,5 +1,5 @@
 -- The numbers of lines, and that each line is right behind the earlier ones.
-use Rattle.std.proofs.Common.{◌≡◌, ◌≢◌, ℕ, zero, suc, ◌+◌, ◌<◌, ◌≤◌, ◌==◌, Bool, true, false, ◌||◌, cond, List, [], ◌∷◌, ◌++◌, length, Option, None, Some, slice_get, refl, sym, ap, ◌∙◌, subst, arith, append_assoc, append-nil}
+use Rattle.std.proofs.Common.{◌≡◌, ℕ, suc, ◌+◌, ◌<◌, ◌≤◌, ◌==◌, Bool, true, false, cond, List, [], ◌∷◌, ◌++◌, length, Option, Some, refl, sym, ap, ◌∙◌, subst, arith, append_assoc, append-nil}
 use Rattle.std.specs.List.{AllByRecursion, filter, find}
 use Rattle.std.proofs.lemmas.Bool.Decides.{nat_tests}
 use Rattle.std.proofs.lemmas.List.{length-append}
@@ -8,16 +8,15 @@ use Rattle.cd_clause.specs.declared.Clause.{Clause}
 use Rattle.cd_steps.specs.declared.Name.{Name}
 use Rattle.cd_steps.specs.declared.Step.{Step}
 use Rattle.cd_steps.specs.declared.Step.TheVariants.{Input, Resolve}
-use Rattle.cd_steps.specs.Steps.{StepOk}
 use Rattle.cd_read.specs.declared.problem.Problem.{Problem}
 use Rattle.cd_read.specs.declared.problem.Input.{Input as ProblemInput}
 use Rattle.cd_text.specs.declared.line.Line.{Line}
 use Rattle.cd_ledger.specs.declared.Record.{Record}
 use Rattle.cd_ledger.specs.Names.{name_eq, cites_of}
 use Rattle.cd_laws.specs.Right.{IsNamed, IsStepRight, AreStepsRight, IsRecordRight, AreRecordsRight}
-use Rattle.cd_check.specs.Accepted.{clause_at, IsSourceOk, IsInput, IsLineOk, AreLinesOk}
+use Rattle.cd_check.specs.Accepted.{clause_at, IsSourceOk, IsLineOk, AreLinesOk}
 use Rattle.cd_build.specs.Derivation.{is_wanted, choose, number_of, input_role, input_source, role_of, source_of, lines_of_steps, lines_from}
-use Rattle.cd_build.proofs.Choosing.{same_name, other_name, first_cited, second_cited, right_push, wanted_in, closed, find_named, find_kept, cites_placed}
+use Rattle.cd_build.proofs.Choosing.{first_cited, second_cited, right_push, wanted_in, closed, find_named, find_kept}
 
 -- ---- records with one step
 

@@ -1,7 +1,6 @@
 -- The lines of a peer that recorded the empty clause are a refutation.
-use Rattle.std.proofs.Common.{◌≡◌, ℕ, zero, suc, ◌+◌, ◌^◌, ◌<◌, ◌≤◌, Bool, true, false, ◌||◌, cond, List, [], ◌∷◌, ◌++◌, length, map, remove, Option, None, Some, slice_get, refl, sym, ap, ◌∙◌, subst, arith, append_assoc, append-nil}
+use Rattle.std.proofs.Common.{◌≡◌, ℕ, zero, suc, ◌+◌, ◌^◌, ◌<◌, ◌≤◌, Bool, true, false, ◌||◌, cond, List, [], ◌∷◌, ◌++◌, length, map, remove, Option, Some, slice_get, refl, sym, ap, ◌∙◌, subst, arith, append-nil}
 use Rattle.std.specs.List.{AllByRecursion, filter}
-use Rattle.std.proofs.lemmas.List.{length-append}
 use Rattle.std.proofs.lemmas.List.Elements.{filter-append}
 use Rattle.cd_clause.specs.declared.Clause.{Clause}
 use Rattle.cd_clause.specs.declared.Literal.{Literal}
@@ -18,15 +17,14 @@ use Rattle.cd_ledger.specs.declared.Local.{Local}
 use Rattle.cd_ledger.specs.declared.Record.{Record}
 use Rattle.cd_ledger.specs.declared.Verdict.{Verdict}
 use Rattle.cd_ledger.specs.declared.Verdict.TheVariants.{Refuted}
-use Rattle.cd_ledger.specs.Names.{name_eq}
 use Rattle.cd_ledger.specs.Machine.{is_empty, no_literals}
 use Rattle.cd_ledger.specs.World.{has_empty}
-use Rattle.cd_laws.specs.Right.{record_of, records_of, AreStepsRight, IsRecordRight, AreRecordsRight, EndsRight, IsRight}
-use Rattle.cd_check.specs.Accepted.{IsLineFormed, AreLinesOk, EndsEmpty, IsRefutation}
-use Rattle.cd_build.specs.Derivation.{Chosen, is_wanted, choose, up_to_empty, last_names, ancestors, input_role, input_source, source_of, role_of, number_of, lines_of_steps, lines_from, derivation_of}
-use Rattle.cd_build.specs.Refuting.{IsRefuted, IsPrintable, DerivationsRefute}
+use Rattle.cd_laws.specs.Right.{record_of, records_of, AreStepsRight, AreRecordsRight, EndsRight, IsRight}
+use Rattle.cd_check.specs.Accepted.{IsLineFormed, EndsEmpty, IsRefutation}
+use Rattle.cd_build.specs.Derivation.{is_wanted, choose, up_to_empty, last_names, ancestors, input_role, input_source, lines_of_steps, lines_from, derivation_of}
+use Rattle.cd_build.specs.Refuting.{IsPrintable, DerivationsRefute}
 use Rattle.cd_build.proofs.Choosing.{same_name, wanted_in, chosen_kept, wanted_more}
-use Rattle.cd_build.proofs.Numbering.{OneStep, IsLine, one_line, records_one, all_filter, lines_append, lines_right, number_small}
+use Rattle.cd_build.proofs.Numbering.{OneStep, one_line, records_one, all_filter, lines_append, lines_right, number_small}
 
 -- ---- clauses of records are formed
 

@@ -1,3 +1,4 @@
 pub mod Derivation
 pub mod Marks
 pub mod Refuting
+pub mod Row

@@ -10,7 +10,6 @@ use Rattle.cd_text.specs.declared.line.Line.{Line}
 use Rattle.cd_text.specs.declared.line.LineSource.{LineSource}
 use Rattle.cd_text.specs.declared.line.LineSource.TheVariants.{Inference}
 use Rattle.cd_ledger.specs.declared.Known.{Known}
-use Rattle.cd_ledger.specs.declared.Record.{Record}
 use Rattle.cd_laws.specs.Right.{record_of}
 use Rattle.cd_build.specs.Derivation.{choose, is_wanted, last_names, role_of, input_source}
 

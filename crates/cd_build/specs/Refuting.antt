@@ -1,5 +1,5 @@
 -- That the lines of a peer that recorded the empty clause are a refutation.
-use Rattle.std.specs.Prelude.{◌≡◌, ℕ, ◌^◌, ◌<◌, ◌≤◌, length, Some}
+use Rattle.std.specs.Prelude.{◌≡◌, ◌^◌, ◌<◌, Some}
 use Rattle.std.specs.List.{AllByRecursion}
 use Rattle.cd_read.specs.declared.problem.Problem.{Problem}
 use Rattle.cd_read.specs.Problems.{IsFormed}
