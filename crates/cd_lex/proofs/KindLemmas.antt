@@ -104,7 +104,7 @@ group_number b is = by (is_digit b) refl is
 
 -- a token is one byte, or begins as its kind says
 pub data Head (k : TokenKind) (text : Bytes) : Type 0 where
-  single : (b : ℕ) → text ≡ b ∷ [] → (is_sign b ≡ true) ⊎ (is_other b ≡ true) → (k ≡ Sign) ⊎ (k ≡ Other) → Head k text
+  single : (b : ℕ) → text ≡ b ∷ [] → ((k ≡ Sign) × (is_sign b ≡ true)) ⊎ ((k ≡ Other) × (is_other b ≡ true)) → Head k text
   opened : (b : ℕ) (rest : Bytes) → text ≡ b ∷ rest → code k ≡ group b → Head k text
 
 integer_first : (text : Bytes) → IsInteger text → First text begins_number
@@ -138,8 +138,8 @@ head Number text (i, parts, is, more, e) =
     let r = integer_first i is in
     opened r.byte (r.rest ++ parts) (e ∙ ap (λ (l : Bytes). l ++ parts) r.is) (sym (group_number r.byte r.passes))
 head Sign text (inl e) = opened 33 (61 ∷ []) e refl
-head Sign text (inr (b, passes, e)) = single b e (inl passes) (inl refl)
-head Other text (b, passes, e) = single b e (inr passes) (inr refl)
+head Sign text (inr (b, passes, e)) = single b e (inl (refl, passes))
+head Other text (b, passes, e) = single b e (inr (refl, passes))
 
 -- a token is the longest where no token of a kind that its first byte may begin is longer
 pub longest_token : (K : TokenKind) (b : ℕ) (more bytes rest : Bytes) → IsToken K (b ∷ more) → bytes ≡ (b ∷ more) ++ rest
@@ -149,7 +149,7 @@ longest_token K b more bytes rest is split bound =
     (is, record { rest = rest; split = split; is = (K, is); longest = λ other after any e. by other after any.0 any.1 (head any.0 other any.1) e })
   where
     by : (other after : Bytes) (k : TokenKind) → IsToken k other → Head k other → bytes ≡ other ++ after → length other ≤ length (b ∷ more)
-    by other after k is' (single c one passes kind) e = omega (arith, ap length one)
+    by other after k is' (single c one kind) e = omega (arith, ap length one)
     by other after k is' (opened c tail first same) e =
         let whole : b ∷ (more ++ rest) ≡ c ∷ (tail ++ after) = sym split ∙ e ∙ ap (λ (l : Bytes). l ++ after) first in
         let eq : c ≡ b = cc in
@@ -160,8 +160,8 @@ pub own_token : (K : TokenKind) → K ≢ Sign → K ≢ Other → (bytes : Byte
 own_token K no_sign no_other bytes from end r = by (head K r.text r.longest.is)
   where
     by : Head K r.text → EndsToken K bytes from end
-    by (single b one passes (inl sign)) = absurd (no_sign sign)
-    by (single b one passes (inr other)) = absurd (no_other other)
+    by (single b one (inl sign)) = absurd (no_sign sign.0)
+    by (single b one (inr other)) = absurd (no_other other.0)
     by (opened b more first same) = (
       b ∷ more,
       longest_token K b more bytes r.longest.rest (subst (IsToken K) first r.longest.is) (r.longest.split ∙ ap (λ (l : Bytes). l ++ r.longest.rest) first)
@@ -199,10 +199,10 @@ no_unequal_at bytes at lt (inr (inr other)) rest e =
     let w : get_or bytes at 0 ∷ get_or bytes (at + 1) 0 ∷ drop (at + 2) bytes ≡ 33 ∷ 61 ∷ rest = sym (two_from_place bytes at n) ∙ e in
     let same : get_or bytes (at + 1) 0 ≡ 61 = cc in other same
 
-sign_group : (b : ℕ) → is_sign b ≡ true → 5 ≤ group b
+pub sign_group : (b : ℕ) → is_sign b ≡ true → 5 ≤ group b
 sign_group b is = leb-true 5 (group b) (among (λ x. nat_le 5 (group x)) (codes "()[],.:~=|") b refl is)
 
-other_group : (b : ℕ) → is_other b ≡ true → 5 ≤ group b
+pub other_group : (b : ℕ) → is_other b ≡ true → 5 ≤ group b
 other_group b is = leb-true 5 (group b) (among (λ x. nat_le 5 (group x)) (codes "&@!?<>*+-^;{}/") b refl is)
 
 -- a token of one byte, where no number and no `!=` stands
@@ -247,14 +247,14 @@ no_token_at : (bytes : Bytes) (at : ℕ) → at < length bytes → is_sign (get_
 no_token_at bytes at lt no_sign no_other kinds = record { no = λ text rest any e. by any.0 text rest any.1 (head any.0 text any.1) e }
   where
     by : (k : TokenKind) (text rest : Bytes) → IsToken k text → Head k text → drop at bytes ≡ text ++ rest → ⊥
-    by k text rest is (single b one (inl passes) kind) e =
+    by k text rest is (single b one (inl kind)) e =
         let whole : get_or bytes at 0 ∷ drop (at + 1) bytes ≡ b ∷ rest = sym (from_place bytes at lt) ∙ e ∙ ap (λ (l : Bytes). l ++ rest) one in
         let same : get_or bytes at 0 ≡ b = cc in
-        true≢false (sym passes ∙ ap is_sign (sym same) ∙ no_sign)
-    by k text rest is (single b one (inr passes) kind) e =
+        true≢false (sym kind.1 ∙ ap is_sign (sym same) ∙ no_sign)
+    by k text rest is (single b one (inr kind)) e =
         let whole : get_or bytes at 0 ∷ drop (at + 1) bytes ≡ b ∷ rest = sym (from_place bytes at lt) ∙ e ∙ ap (λ (l : Bytes). l ++ rest) one in
         let same : get_or bytes at 0 ≡ b = cc in
-        true≢false (sym passes ∙ ap is_other (sym same) ∙ no_other)
+        true≢false (sym kind.1 ∙ ap is_other (sym same) ∙ no_other)
     by k text rest is (opened b tail first same) e =
         let whole : get_or bytes at 0 ∷ drop (at + 1) bytes ≡ b ∷ (tail ++ rest) = sym (from_place bytes at lt) ∙ e ∙ ap (λ (l : Bytes). l ++ rest) first in
         let eq : b ≡ get_or bytes at 0 = cc in
@@ -338,7 +338,7 @@ inside_same q mark a b r s (escaped x u pair u') (escaped y t pair' t') e =
     let tails : u ++ q ∷ r ≡ t ++ q ∷ s = cc in
     λ i. 92 ∷ same i ∷ inside_same q mark u t r s u' t' tails i
 
-abbrev around : ℕ → Bytes → Bytes
+abbrev pub around : ℕ → Bytes → Bytes
 around q inside = q ∷ (inside ++ q ∷ [])
 
 around_split : (q : ℕ) (inside rest : Bytes) → q ∷ (inside ++ q ∷ rest) ≡ around q inside ++ rest

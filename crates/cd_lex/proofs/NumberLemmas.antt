@@ -25,7 +25,7 @@ pub all_middle : (f : ℕ → Bool) (front more : Bytes) (b : ℕ) → list_all 
 all_middle f [] more b all = (both (f b) (list_all f more) all).0
 all_middle f (x ∷ front) more b all = all_middle f front more b (both (f x) (list_all f (front ++ b ∷ more)) all).1
 
-first_digit : (b : ℕ) (text : Bytes) → IsDigits (b ∷ text) → is_digit b ≡ true
+pub first_digit : (b : ℕ) (text : Bytes) → IsDigits (b ∷ text) → is_digit b ≡ true
 first_digit b text is = (both (is_digit b) (list_all is_digit text) is.1).0
 
 -- a sign is no digit

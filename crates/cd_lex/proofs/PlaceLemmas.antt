@@ -1,5 +1,5 @@
 -- The bytes from a place on.
-use Rattle.std.proofs.Common.{◌≡◌, ◌∙◌, ◌+◌, ◌-◌, ◌<◌, ◌≤◌, ◌++◌, ◌∷◌, [], ℕ, length, take, drop, get_or, refl, sym, ap, ap₂, arith, add-one, drop-cons, drop_of_length-le, drop-drop, drop_at, take_at, length-drop, length-append}
+use Rattle.std.proofs.Common.{◌==◌, false, true≢false, eq-eqb, ◌≡◌, ◌∙◌, ◌+◌, ◌-◌, ◌<◌, ◌≤◌, ◌++◌, ◌∷◌, [], ℕ, length, take, drop, get_or, refl, sym, ap, ap₂, arith, add-one, drop-cons, drop_of_length-le, drop-drop, drop_at, take_at, length-drop, length-append}
 use Rattle.cd_lex.specs.Bytes.{Bytes}
 
 pub from_place : (bytes : Bytes) (at : ℕ) → at < length bytes → drop at bytes ≡ get_or bytes at 0 ∷ drop (at + 1) bytes
@@ -59,3 +59,7 @@ same_front (x ∷ a) (y ∷ b) after before e n =
 pub same_back : (a after before : Bytes) → a ++ after ≡ a ++ before → after ≡ before
 same_back [] after before e = e
 same_back (x ∷ a) after before e = let tails : a ++ after ≡ a ++ before = cc in same_back a after before tails
+
+-- bytes that begin with different ones
+pub differ : (a b : ℕ) (x y : Bytes) → (a == b) ≡ false → a ∷ x ≡ b ∷ y → ⊥
+differ a b x y other e = let same : a ≡ b = cc in true≢false (sym (eq-eqb a b same) ∙ other)

@@ -12,6 +12,8 @@ mod bytes;
 mod gaps;
 mod numbers;
 mod quotes;
+#[cfg(test)]
+mod tests;
 mod words;
 
 use bytes::{is_dollar, is_lower, is_other, is_sign, is_upper};
