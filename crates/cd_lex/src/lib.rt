@@ -3,7 +3,7 @@
 //! Nothing here takes memory. The work of a call is linear in the bytes that it passes over.
 #![tactic(auto)]
 
-ghost use Rattle.std.specs.Prelude.{◌≡◌, ◌^◌, ◌<◌, ◌≤◌, ℕ, length, drop, slice_index, IfOk, MatchOption, MatchResult};
+ghost use Rattle.std.specs.Prelude.{◌≡◌, ◌+◌, ◌^◌, ◌<◌, ◌≤◌, ℕ, length, drop, slice_index, IfOk, IfSome, MatchOption, MatchResult};
 ghost use Rattle.cd_lex.specs.Gaps.{BeginsNoGap};
 ghost use Rattle.cd_lex.specs.Next.{IsNext, BeginsFault, token, nothing, fault};
 ghost use Rattle.cd_lex.specs.Scans.{EndsToken, BeginsNoWord};
@@ -72,13 +72,16 @@ pub struct Token<'a> {
 }
 
 /// The first token from place `from` on, behind blanks and comments; `None` where nothing else follows.
+/// The next call begins behind the token, at `start` and the slice's length together.
 pub fn next_token(bytes: &[u8], from: usize) -> Result<Option<Token<'_>>, LexFault>
     requires few { length bytes.now < 2 ^ 32 }
     requires within { from ≤ length bytes.now }
-    ensures { MatchResult result
+    ensures next { MatchResult result
         (λ next. MatchOption next (IsNext bytes.now from nothing)
         (λ t. IsNext bytes.now from (token t.kind t.start t.slice.now)))
         (λ f. IsNext bytes.now from (fault f)) }
+    ensures ahead { IfOk result (λ next. IfSome next (λ t. from < t.start + length t.slice.now)) }
+    ensures within { IfOk result (λ next. IfSome next (λ t. t.start + length t.slice.now ≤ length bytes.now)) }
 {
     let Some(at) = gap_end(bytes, from)? else {
         return Ok(None);
