@@ -1,0 +1,10 @@
+pub mod FormLemmas
+pub mod GapLemmas
+pub mod KindLemmas
+pub mod NextLaws
+pub mod NumberLemmas
+pub mod PlaceLemmas
+pub mod QuoteLemmas
+pub mod RunLemmas
+pub mod SingleLemmas
+pub mod WordLemmas

@@ -1,0 +1,5 @@
+pub mod Bytes
+pub mod Gaps
+pub mod Next
+pub mod Scans
+pub mod Tokens

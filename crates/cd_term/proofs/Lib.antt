@@ -1,0 +1,12 @@
+pub mod TermInduction
+pub mod Equations
+pub mod Measures
+pub mod Paths
+pub mod Replaced
+pub mod Firsts
+pub mod Ranks
+pub mod Substitutions
+pub mod Occurrence
+pub mod SizeLaws
+pub mod PathLaws
+pub mod VariableLaws

@@ -1,0 +1,10 @@
+use Rattle.std.proofs.Common.{◌≡◌, ◌≤◌, sum_by, map, take}
+use Rattle.cd_term.specs.Terms.{size_of, depth_of, greatest}
+use Rattle.cd_term.proofs.limits.measure_all.Given as goal
+
+abbrev pub invariant-loop-t : goal.invariant-loop-t
+invariant-loop-t l = record {
+  total_is : l.total ≡ sum_by size_of (take l.t-index l.ts);
+  few : l.total ≤ l.symbols;
+  flat : greatest (map depth_of (take l.t-index l.ts)) ≤ l.levels;
+}
