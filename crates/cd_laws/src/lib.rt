@@ -5,6 +5,7 @@
 
 ghost use Rattle.cd_laws.specs.Right.{RunsAreRight};
 ghost use Rattle.cd_laws.specs.Formed.{RunsHaveFormed};
+ghost use Rattle.cd_laws.specs.Models.{RunsKeepModels, ClosedRunsKeepModels};
 
 /// In every run each record stands, by right steps, on the inputs and on records before it.
 pub fn runs_are_right()
@@ -14,4 +15,15 @@ pub fn runs_are_right()
 /// In every run each clause that a peer holds is over the problem's symbols.
 pub fn runs_have_formed()
     ensures { RunsHaveFormed }
+{}
+
+/// In every run the clauses that the peers carry have exactly the models of the input.
+pub fn runs_keep_models()
+    ensures { RunsKeepModels }
+{}
+
+/// Where a run ends with nothing travelling, pending or owed, the recorded clauses have exactly the models of
+/// the input.
+pub fn closed_runs_keep_models()
+    ensures { ClosedRunsKeepModels }
 {}

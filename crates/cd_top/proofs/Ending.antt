@@ -1,23 +1,27 @@
 -- What the account of a finished run says of its answer.
-use Rattle.std.proofs.Common.{◌≡◌, ℕ, Bool, cond, List, [], ◌∷◌, length, replicate, Option, Some, None, IsSome, refl, sym, ap, ◌∙◌, subst}
+use Rattle.std.proofs.Common.{◌≡◌, ℕ, Bool, cond, List, [], ◌∷◌, length, replicate, Option, Some, None, IsSome, refl, sym, ap, ◌∙◌, subst, append-nil}
+use Rattle.cd_clause.specs.Truth.{Models}
 use Rattle.cd_read.specs.declared.problem.Problem.{Problem}
-use Rattle.cd_check.specs.Accepted.{AcceptedText}
+use Rattle.cd_check.specs.Accepted.{AcceptedText, input_clauses}
 use Rattle.cd_check.proofs.Refuting.{accepted_texts_refute}
 use Rattle.cd_ledger.specs.declared.Event.{Event}
 use Rattle.cd_ledger.specs.declared.Limits.{Limits}
 use Rattle.cd_ledger.specs.declared.Local.{Local}
 use Rattle.cd_ledger.specs.declared.Verdict.{Verdict}
 use Rattle.cd_ledger.specs.declared.Verdict.TheVariants as verdict
+use Rattle.cd_ledger.specs.Machine.{IsQuiet}
 use Rattle.cd_ledger.specs.World.{Run, start_world, recorded}
 use Rattle.cd_peer.specs.Finished.{alone, VerdictSays, IsFinished}
 use Rattle.cd_laws.specs.Right.{records_of}
+use Rattle.cd_laws.specs.Models.{recorded_clauses, HaveSameModels}
+use Rattle.cd_laws.proofs.ModelsLemmas.{runs_keep_models, closed_runs_keep_models}
 use Rattle.cd_build.specs.Derivation.{derivation_of}
 use Rattle.cd_top.specs.declared.answer.Account.{Account}
 use Rattle.cd_top.specs.declared.answer.Answer.{Answer}
 use Rattle.cd_top.specs.declared.answer.Answer.TheVariants.{Refuted, Saturated, Spent, Usage, Refused, LibraryFault, SinkFault, Memory}
 use Rattle.cd_top.specs.Texts.{refuted_text, saturated_text, spent_text}
 use Rattle.cd_top.specs.Ends.{verdict_answer, verdict_text}
-use Rattle.cd_top.specs.Headline.{IsRecorded, EndsIn, RunEnds, Refutes, HasNoModel, is_spent}
+use Rattle.cd_top.specs.Headline.{IsRecorded, EndsIn, RunEnds, KeepsModels, Refutes, HasNoModel, is_spent}
 
 recorded_one : (es : List Event) → recorded (es ∷ []) (replicate (length es) 0) ≡ es
 recorded_one [] = refl
@@ -38,6 +42,13 @@ account_recorded a p limits s f account =
     let run : Run (start_world p a.limits) s.journal (alone s) = subst (λ (l : Limits). Run (start_world p l) s.journal (alone s)) (sym account.limits_are) f.reached.run in
     record { run = subst (λ (es : List Event). Run (start_world p a.limits) es (alone s)) (sym events) run; journals = sym account.journals }
 
+-- what was recorded at the end of a closed run has the models of the problem
+recorded_models : (p : Problem) (limits : Limits) (s : Local) → IsFinished p limits s → IsQuiet s → HaveSameModels (recorded_clauses s) (input_clauses p.inputs)
+recorded_models p limits s f quiet interp =
+    let same = closed_runs_keep_models p limits s.journal (alone s) f.reached.run (record { travelling = refl; quiet = (quiet, tt) }) interp in
+    let one = append-nil (recorded_clauses s) in
+    (λ models. same.0 (subst (Models interp) (sym one) models), λ models. subst (Models interp) one (same.1 models))
+
 -- the answer has its cause, by the verdict
 ends_by : (v : Option Verdict) (a : Account) (p : Problem) (limits : Limits) (s : Local) → s.verdict ≡ v → IsSome v → VerdictSays v s → IsFinished p limits s → IsAccountOf a p limits s → a.text ≡ verdict_text p s v
     → (s.verdict ≡ Some verdict.Refuted → AcceptedText p (refuted_text p (derivation_of p s))) → EndsIn a p (alone s) (verdict_answer v)
@@ -54,6 +65,7 @@ ends_by (Some verdict.Saturated) a p limits s is ended says f account text accep
   state = s;
   alone = refl;
   text = text ∙ ap (λ (n : ℕ). saturated_text p n (records_of s)) (sym account.peers);
+  models = recorded_models p limits s f says.1;
 }
 ends_by (Some verdict.Spent) a p limits s is ended says f account text accepted =
     let steps : s.limits.steps ≡ a.limits.steps = ap (λ (l : Limits). l.steps) (f.reached.limits_are ∙ sym account.limits_are) in
@@ -70,6 +82,11 @@ pub run_ends : (a : Account) (p : Problem) (limits : Limits) (s : Local) → IsF
     → (s.verdict ≡ Some verdict.Refuted → AcceptedText p (refuted_text p (derivation_of p s))) → RunEnds a (verdict_answer s.verdict) (Some p)
 run_ends a p limits s f account accepted =
     (alone s, account_recorded a p limits s f account, ends_by s.verdict a p limits s refl f.ended f.reached.says f account account.text accepted)
+
+-- a recorded run keeps the models of the problem
+pub keeps_models : (a : Account) (o : Option Problem) → KeepsModels a o
+keeps_models a None = tt
+keeps_models a (Some p) = λ front rest w events run. runs_keep_models p a.limits front w run
 
 -- an accepted text shows that there is no model
 refuted_has_none : (a : Account) (peer : ℕ) (p : Problem) → RunEnds a (Refuted peer) (Some p) → HasNoModel (Some p)

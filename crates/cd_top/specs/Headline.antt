@@ -1,5 +1,5 @@
 -- What the top call promises of its answer.
-use Rattle.std.specs.Prelude.{◌≡◌, ℕ, ◌+◌, ◌⊎◌, ⊤, Bool, true, false, if◌then◌else◌, List, [], ◌∷◌, map, Option, None, Some}
+use Rattle.std.specs.Prelude.{◌≡◌, ℕ, ◌+◌, ◌⊎◌, ⊤, Bool, true, false, if◌then◌else◌, List, [], ◌∷◌, ◌++◌, map, Option, None, Some}
 use Rattle.std.specs.Io.KnownBytes.{Appends}
 use Rattle.std.specs.declared.result.Result.TheVariants.{Ok, Err}
 use Rattle.cd_clause.specs.Truth.{HaveNoModel}
@@ -13,7 +13,9 @@ use Rattle.cd_ledger.specs.declared.Local.{Local}
 use Rattle.cd_ledger.specs.declared.Verdict.{Verdict}
 use Rattle.cd_ledger.specs.declared.Verdict.TheVariants as verdict
 use Rattle.cd_ledger.specs.World.{World, Run, IsClosed, start_world, recorded, journal_of, has_empty, work_count, EndsWith}
+use Rattle.cd_ledger.specs.declared.Event.{Event}
 use Rattle.cd_laws.specs.Right.{records_of}
+use Rattle.cd_laws.specs.Models.{carried, recorded_clauses, HaveSameModels}
 use Rattle.cd_build.specs.Derivation.{derivation_of}
 use Rattle.cd_top.specs.declared.answer.Answer.{Answer}
 use Rattle.cd_top.specs.declared.answer.Answer.TheVariants.{Refuted, Saturated, Spent, Usage, Refused, LibraryFault, SinkFault, Memory}
@@ -74,6 +76,12 @@ pub record IsRecorded (account : Account) (p : Problem) (w : World) : Type 0 whe
   pub run : Run (start_world p account.limits) (recorded account.journals account.order) w
   pub journals : map journal_of w.locals ≡ account.journals
 
+-- after each front of the recorded run, the carried clauses have exactly the models of the problem's clauses
+abbrev pub KeepsModels : Account → Option Problem → Type 0
+KeepsModels account None = ⊤
+KeepsModels account (Some p) =
+    (front rest : List Event) (w : World) → recorded account.journals account.order ≡ front ++ rest → Run (start_world p account.limits) front w → HaveSameModels (carried w) (input_clauses p.inputs)
+
 -- the least peer that recorded the empty clause, peers being counted from k, and its state
 abbrev pub least_refuted : ℕ → List Local → Option (ℕ × Local)
 least_refuted k [] = None
@@ -97,13 +105,15 @@ pub record EndsRefuted (account : Account) (p : Problem) (w : World) (peer : ℕ
   pub text : account.text ≡ refuted_text p (derivation_of p state)
   pub accepted : AcceptedText p account.text
 
--- no empty clause was recorded, and nothing travels, is pending or is owed: the held clauses are printed
+-- no empty clause was recorded, and nothing travels, is pending or is owed: the held clauses are printed, and have exactly the
+-- models of the problem's clauses
 pub record EndsSaturated (account : Account) (p : Problem) (w : World) : Type 0 where
   pub none : least_refuted 0 w.locals ≡ None
   pub closed : IsClosed w
   pub state : Local
   pub alone : w.locals ≡ state ∷ []
   pub text : account.text ≡ saturated_text p account.peers (records_of state)
+  pub models : HaveSameModels (recorded_clauses state) (input_clauses p.inputs)
 
 -- no empty clause was recorded, and this peer is the least that did as many tasks as it may and ended there
 pub record EndsSpent (account : Account) (p : Problem) (w : World) (peer : ℕ) : Type 0 where

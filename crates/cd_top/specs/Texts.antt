@@ -1,6 +1,6 @@
 -- The text of each answer.
-use Rattle.std.specs.Prelude.{ℕ, List, [], ◌∷◌, ◌++◌, length, codes, decimal}
-use Rattle.std.specs.List.{flat_map}
+use Rattle.std.specs.Prelude.{ℕ, ◌+◌, ◌==◌, min, List, [], ◌∷◌, ◌++◌, length, codes, decimal}
+use Rattle.std.specs.List.{flat_map, position_or_len}
 use Rattle.cd_symbols.specs.Symbol.{Symbol}
 use Rattle.cd_read.specs.declared.problem.Problem.{Problem}
 use Rattle.cd_read.specs.declared.problem.What.{What}
@@ -13,6 +13,10 @@ use Rattle.cd_text.specs.Texts.{shown, quoted, clause_text, line_text}
 -- a line, and its line feed
 abbrev pub with_feed : List ℕ → List ℕ
 with_feed line = line ++ 10 ∷ []
+
+-- how many bytes the first line has, with its line feed
+abbrev pub first_line_length : List ℕ → ℕ
+first_line_length text = min (position_or_len (λ b. b == 10) text + 1) (length text)
 
 -- ---- a refutation: comments around the derivation's lines
 

@@ -1,7 +1,8 @@
 //! Writes the text, line by line.
-ghost use Rattle.std.specs.Prelude.{◌≡◌, ◌<◌, ◌≤◌, length, OnOk, OnErr};
+ghost use Rattle.std.specs.Prelude.{◌≡◌, ◌<◌, ◌≤◌, ◌==◌, length, position, OnOk, OnErr};
 ghost use Rattle.std.specs.Io.KnownBytes.{Appends};
 ghost use Rattle.cd_outside.specs.Outside.{HasCause, AppendsFront};
+ghost use Rattle.cd_top.specs.Texts.{first_line_length};
 
 use cd_outside::{Sink, SinkFailed};
 
@@ -23,11 +24,18 @@ pub fn send<K: Sink>(sink: &mut K, text: &[u8]) -> Result<(), SinkFailed>
 // How many bytes the first line has, with its line feed.
 fn first_line(text: &[u8]) -> usize
     requires { 0 < length text.now }
+    ensures length { result ≡ first_line_length text.now }
     ensures some { 0 < result }
     ensures within { result ≤ length text.now }
 {
-    match text.iter().position(|b| *b == b'\n') {
+    match first_feed(text) {
         Some(place) => place + 1,
         None => text.len(),
     }
+}
+
+fn first_feed(text: &[u8]) -> Option<usize>
+    ensures { result ≡ position (λ b. b == 10) text.now }
+{
+    text.iter().position(|b| *b == b'\n')
 }

@@ -1,0 +1,5 @@
+use Rattle.cd_top.proofs.Ending.{keeps_models}
+use Rattle.cd_top.proofs.call.prove.Goals as goal
+
+pub returns-clause-models : goal.returns-clause-models
+returns-clause-models g c = keeps_models c.in-Ok.account c.in-Ok.account.problem
