@@ -74,14 +74,14 @@ filter_all test (x ∷ xs) all = ap (λ ys. cond (test x) (x ∷ ys) ys) (filter
 AllLive : Local → Type 0
 AllLive s = AllByRecursion (λ k. is_live_at s.me k ≡ true) s.known
 
-same_number : (n : ℕ) → (n == n) ≡ true
-same_number n = grind (arith, nat_tests)
+pub equal_itself : (n : ℕ) → (n == n) ≡ true
+equal_itself n = grind (arith, nat_tests)
 
 acted_live : (s : Local) (act : Act) (found : Found act) → AllLive s → Fits s act found → AllLive (acted s act found)
 unfolding AllLive
 acted_live s (Keep place) (item, Named n) all fits =
     let owner : n.peer ≡ s.me = ap (λ (m : Name). m.peer) fits.1 in
-    let live : is_live_at s.me (recorded_item n item) ≡ true = ap (λ (m : ℕ). m == s.me) owner ∙ same_number s.me in
+    let live : is_live_at s.me (recorded_item n item) ≡ true = ap (λ (m : ℕ). m == s.me) owner ∙ equal_itself s.me in
     all_append (λ k. is_live_at s.me k ≡ true) s.known (recorded_item n item ∷ []) all (live, tt)
 acted_live s (Work task) found all fits = all
 acted_live s Declare found all fits = all

@@ -67,11 +67,11 @@ record_at p me before (q ∷ rs) (suc j) r all there =
     let k : length (before ++ q ∷ []) + j ≡ length before + suc j = omega (arith, length-append before (q ∷ [])) in
     record_at p me (before ++ q ∷ []) rs j r all.1 there ∙ ap (λ (n : ℕ). record { peer = me; seq = n }) k
 
-both : (a b : Bool) → (a && b) ≡ true → (a ≡ true) × (b ≡ true)
+pub both : (a b : Bool) → (a && b) ≡ true → (a ≡ true) × (b ≡ true)
 both true b h = (refl, h)
 both false b h = absurd cc
 
-same_number : (m n : ℕ) → (m == n) ≡ true → m ≡ n
+pub same_number : (m n : ℕ) → (m == n) ≡ true → m ≡ n
 same_number m n h = grind (arith, nat_tests)
 
 -- what is known under a name is named so
@@ -167,7 +167,7 @@ right_start p limits units = record { counted = refl; known = tt; pending = inpu
 
 -- ---- events
 
-map_push : (xs : List Known) (x : Known) → map record_of (xs ++ x ∷ []) ≡ map record_of xs ++ x.entry ∷ []
+pub map_push : (xs : List Known) (x : Known) → map record_of (xs ++ x ∷ []) ≡ map record_of xs ++ x.entry ∷ []
 map_push [] x = refl
 map_push (y ∷ xs) x = ap (λ (l : List Record). y.entry ∷ l) (map_push xs x)
 

@@ -1,3 +1,4 @@
 pub mod Right
 pub mod Formed
 pub mod Models
+pub mod Accounts

@@ -5,6 +5,7 @@
 
 ghost use Rattle.cd_laws.specs.Right.{RunsAreRight};
 ghost use Rattle.cd_laws.specs.Formed.{RunsHaveFormed};
+ghost use Rattle.cd_laws.specs.Accounts.{RunsAreAccounted};
 ghost use Rattle.cd_laws.specs.Models.{RunsKeepModels, ClosedRunsKeepModels};
 
 /// In every run each record stands, by right steps, on the inputs and on records before it.
@@ -26,4 +27,10 @@ pub fn runs_keep_models()
 /// the input.
 pub fn closed_runs_keep_models()
     ensures { ClosedRunsKeepModels }
+{}
+
+/// In every run each task of live clauses is owed once, or was done once with each of its conclusions pending
+/// or settled once.
+pub fn runs_are_accounted()
+    ensures { RunsAreAccounted }
 {}

@@ -10,10 +10,11 @@ use Rattle.cd_ledger.specs.declared.Local.{Local}
 use Rattle.cd_ledger.specs.declared.Verdict.{Verdict}
 use Rattle.cd_ledger.specs.declared.Verdict.TheVariants as verdict
 use Rattle.cd_ledger.specs.Machine.{IsQuiet}
-use Rattle.cd_ledger.specs.World.{Run, start_world, recorded}
+use Rattle.cd_ledger.specs.World.{World, Run, start_world, recorded}
 use Rattle.cd_peer.specs.Finished.{alone, VerdictSays, IsFinished}
 use Rattle.cd_laws.specs.Right.{records_of}
 use Rattle.cd_laws.specs.Models.{recorded_clauses, HaveSameModels}
+use Rattle.cd_laws.proofs.AccountLemmas.{runs_are_accounted}
 use Rattle.cd_laws.proofs.ModelsLemmas.{runs_keep_models, closed_runs_keep_models}
 use Rattle.cd_build.specs.Derivation.{derivation_of}
 use Rattle.cd_top.specs.declared.answer.Account.{Account}
@@ -21,7 +22,7 @@ use Rattle.cd_top.specs.declared.answer.Answer.{Answer}
 use Rattle.cd_top.specs.declared.answer.Answer.TheVariants.{Refuted, Saturated, Spent, Usage, Refused, LibraryFault, SinkFault, Memory}
 use Rattle.cd_top.specs.Texts.{refuted_text, saturated_text, spent_text}
 use Rattle.cd_top.specs.Ends.{verdict_answer, verdict_text}
-use Rattle.cd_top.specs.Headline.{IsRecorded, EndsIn, RunEnds, KeepsModels, Refutes, HasNoModel, is_spent}
+use Rattle.cd_top.specs.Headline.{IsRecorded, EndsIn, RunEnds, AtEachMoment, HasModelsOf, AccountsForAll, Refutes, HasNoModel, is_spent}
 
 recorded_one : (es : List Event) → recorded (es ∷ []) (replicate (length es) 0) ≡ es
 recorded_one [] = refl
@@ -83,10 +84,16 @@ pub run_ends : (a : Account) (p : Problem) (limits : Limits) (s : Local) → IsF
 run_ends a p limits s f account accepted =
     (alone s, account_recorded a p limits s f account, ends_by s.verdict a p limits s refl f.ended f.reached.says f account account.text accepted)
 
--- a recorded run keeps the models of the problem
-pub keeps_models : (a : Account) (o : Option Problem) → KeepsModels a o
-keeps_models a None = tt
-keeps_models a (Some p) = λ front rest w events run. runs_keep_models p a.limits front w run
+-- what holds in every run from the problem holds at each moment of the recorded one
+at_each_moment : (Says : Problem → World → Type 0) (a : Account) (o : Option Problem) → ((p : Problem) (es : List Event) (w : World) → Run (start_world p a.limits) es w → Says p w) → AtEachMoment Says a o
+at_each_moment Says a None law = tt
+at_each_moment Says a (Some p) law = λ front rest w events run. law p front w run
+
+pub keeps_models : (a : Account) (o : Option Problem) → AtEachMoment HasModelsOf a o
+keeps_models a o = at_each_moment HasModelsOf a o (λ p es w run. runs_keep_models p a.limits es w run)
+
+pub accounts_for_all : (a : Account) (o : Option Problem) → AtEachMoment AccountsForAll a o
+accounts_for_all a o = at_each_moment AccountsForAll a o (λ p es w run. runs_are_accounted p a.limits es w run)
 
 -- an accepted text shows that there is no model
 refuted_has_none : (a : Account) (peer : ℕ) (p : Problem) → RunEnds a (Refuted peer) (Some p) → HasNoModel (Some p)

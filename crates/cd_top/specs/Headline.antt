@@ -1,6 +1,7 @@
 -- What the top call promises of its answer.
 use Rattle.std.specs.Prelude.{◌≡◌, ℕ, ◌+◌, ◌⊎◌, ⊤, Bool, true, false, if◌then◌else◌, List, [], ◌∷◌, ◌++◌, map, Option, None, Some}
 use Rattle.std.specs.Io.KnownBytes.{Appends}
+use Rattle.std.specs.List.{AllByRecursion}
 use Rattle.std.specs.declared.result.Result.TheVariants.{Ok, Err}
 use Rattle.cd_clause.specs.Truth.{HaveNoModel}
 use Rattle.cd_outside.specs.Outside.{AppendsFront, Gives}
@@ -15,6 +16,7 @@ use Rattle.cd_ledger.specs.declared.Verdict.TheVariants as verdict
 use Rattle.cd_ledger.specs.World.{World, Run, IsClosed, start_world, recorded, journal_of, has_empty, work_count, EndsWith}
 use Rattle.cd_ledger.specs.declared.Event.{Event}
 use Rattle.cd_laws.specs.Right.{records_of}
+use Rattle.cd_laws.specs.Accounts.{AreAccounted}
 use Rattle.cd_laws.specs.Models.{carried, recorded_clauses, HaveSameModels}
 use Rattle.cd_build.specs.Derivation.{derivation_of}
 use Rattle.cd_top.specs.declared.answer.Answer.{Answer}
@@ -76,11 +78,18 @@ pub record IsRecorded (account : Account) (p : Problem) (w : World) : Type 0 whe
   pub run : Run (start_world p account.limits) (recorded account.journals account.order) w
   pub journals : map journal_of w.locals ≡ account.journals
 
--- after each front of the recorded run, the carried clauses have exactly the models of the problem's clauses
-abbrev pub KeepsModels : Account → Option Problem → Type 0
-KeepsModels account None = ⊤
-KeepsModels account (Some p) =
-    (front rest : List Event) (w : World) → recorded account.journals account.order ≡ front ++ rest → Run (start_world p account.limits) front w → HaveSameModels (carried w) (input_clauses p.inputs)
+-- what holds of the problem and the world after each front of the recorded run
+abbrev pub AtEachMoment : (Problem → World → Type 0) → Account → Option Problem → Type 0
+AtEachMoment Says account None = ⊤
+AtEachMoment Says account (Some p) = (front rest : List Event) (w : World) → recorded account.journals account.order ≡ front ++ rest → Run (start_world p account.limits) front w → Says p w
+
+-- the carried clauses have exactly the models of the problem's clauses
+abbrev pub HasModelsOf : Problem → World → Type 0
+HasModelsOf p w = HaveSameModels (carried w) (input_clauses p.inputs)
+
+-- every inference between live clauses is owed once, or was done once and each of its conclusions is kept
+abbrev pub AccountsForAll : Problem → World → Type 0
+AccountsForAll p w = AllByRecursion AreAccounted w.locals
 
 -- the least peer that recorded the empty clause, peers being counted from k, and its state
 abbrev pub least_refuted : ℕ → List Local → Option (ℕ × Local)

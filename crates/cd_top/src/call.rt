@@ -3,7 +3,7 @@ ghost use Rattle.std.specs.Prelude.{◌≡◌, ◌≢◌, ◌<◌, [], None, len
 ghost use Rattle.std.specs.Option.{option_copied};
 ghost use Rattle.cd_outside.specs.Outside.{Rose};
 ghost use Rattle.cd_top.specs.Words.{file_word, begins_with_hyphen};
-ghost use Rattle.cd_top.specs.Headline.{status_of, IsRead, IsLibraryFault, RunEnds, KeepsModels, Refutes, TextIs, Taken, IsAnswerTo};
+ghost use Rattle.cd_top.specs.Headline.{status_of, IsRead, IsLibraryFault, RunEnds, AtEachMoment, HasModelsOf, AccountsForAll, Refutes, TextIs, Taken, IsAnswerTo};
 
 use crate::answer::{Account, Answer, Outcome};
 use crate::sending::send;
@@ -33,9 +33,11 @@ pub fn prove<R: Threads + Wait + Sync, L: Library, K: Sink, G: Gate + Sync>(
     ensures read { IsRead (file_word words.now) (L.told library.old) (L.told library.new) result.made result.account.problem }
     ensures library_fault { IsLibraryFault result.made → Rose (L.faults library.old) (L.faults library.new) }
 
-    // The recorded run ends where the answer says, it keeps the models of the problem, and a refutation is one.
+    // The recorded run ends where the answer says, it keeps the models of the problem and accounts for each
+    // inference, and a refutation is one.
     ensures run { RunEnds result.account result.made result.account.problem }
-    ensures models { KeepsModels result.account result.account.problem }
+    ensures models { AtEachMoment HasModelsOf result.account result.account.problem }
+    ensures accounted { AtEachMoment AccountsForAll result.account result.account.problem }
     ensures refutes { Refutes result.made result.account.problem }
 
     // The text, and what the sink took of it.
