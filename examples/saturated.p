@@ -1,0 +1,2 @@
+cnf(first,axiom,p).
+cnf(second,axiom,~q).
