@@ -73,6 +73,11 @@ IsLibraryFault Memory = ⊥
 
 -- ---- the recorded run
 
+-- one peer, which does at most 50,000 tasks
+pub record HasDefaults (account : Account) : Type 0 where
+  pub peers : account.peers ≡ 1
+  pub limits : account.limits ≡ record { steps = 50000 }
+
 -- the account's journals, taken in the account's order, lead from the problem's start to this world, and are used up
 pub record IsRecorded (account : Account) (p : Problem) (w : World) : Type 0 where
   pub run : Run (start_world p account.limits) (recorded account.journals account.order) w

@@ -3,7 +3,7 @@ ghost use Rattle.std.specs.Prelude.{◌≡◌, ◌≢◌, ◌<◌, [], None, len
 ghost use Rattle.std.specs.Option.{option_copied};
 ghost use Rattle.cd_outside.specs.Outside.{Rose};
 ghost use Rattle.cd_top.specs.Words.{file_word, begins_with_hyphen};
-ghost use Rattle.cd_top.specs.Headline.{status_of, IsRead, IsLibraryFault, RunEnds, AtEachMoment, HasModelsOf, AccountsForAll, Refutes, TextIs, Taken, IsAnswerTo};
+ghost use Rattle.cd_top.specs.Headline.{status_of, IsRead, IsLibraryFault, HasDefaults, RunEnds, AtEachMoment, HasModelsOf, AccountsForAll, Refutes, TextIs, Taken, IsAnswerTo};
 
 use crate::answer::{Account, Answer, Outcome};
 use crate::sending::send;
@@ -33,8 +33,9 @@ pub fn prove<R: Threads + Wait + Sync, L: Library, K: Sink, G: Gate + Sync>(
     ensures read { IsRead (file_word words.now) (L.told library.old) (L.told library.new) result.made result.account.problem }
     ensures library_fault { IsLibraryFault result.made → Rose (L.faults library.old) (L.faults library.new) }
 
-    // The recorded run ends where the answer says, it keeps the models of the problem and accounts for each
-    // inference, and a refutation is one.
+    // The recorded run is one peer's. It ends where the answer says, it keeps the models of the problem and
+    // accounts for each inference, and a refutation is one.
+    ensures defaults { HasDefaults result.account }
     ensures run { RunEnds result.account result.made result.account.problem }
     ensures models { AtEachMoment HasModelsOf result.account result.account.problem }
     ensures accounted { AtEachMoment AccountsForAll result.account result.account.problem }
@@ -74,6 +75,7 @@ fn without_memory(alloc: Global) -> Outcome
     ensures problem { result.account.problem ≡ None }
     ensures journals { result.account.journals ≡ [] }
     ensures order { result.account.order ≡ [] }
+    ensures defaults { HasDefaults result.account }
 {
     Outcome {
         status: 71,
@@ -88,6 +90,7 @@ fn without_run(alloc: Global, text: Bytes) -> Account
     ensures problem { result.problem ≡ None }
     ensures journals { result.journals ≡ [] }
     ensures order { result.order ≡ [] }
+    ensures defaults { HasDefaults result }
 {
     Account {
         problem: None,
@@ -122,6 +125,7 @@ fn make<L: Library>(
 ) -> Result<(Answer, Account), AllocError>
     ensures read { IfOk result (λ r. IsRead (file_word words.now) (L.told library.old) (L.told library.new) r.0 r.1.problem) }
     ensures library_fault { IfOk result (λ r. IsLibraryFault r.0 → Rose (L.faults library.old) (L.faults library.new)) }
+    ensures defaults { IfOk result (λ r. HasDefaults r.1) }
     ensures run { IfOk result (λ r. RunEnds r.1 r.0 r.1.problem) }
     ensures refutes { IfOk result (λ r. Refutes r.0 r.1.problem) }
     ensures text { IfOk result (λ r. TextIs r.0 r.1.text) }

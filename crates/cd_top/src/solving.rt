@@ -3,7 +3,7 @@ ghost use Rattle.std.specs.Prelude.{◌≡◌, ◌≤◌, [], Some, length, repl
 ghost use Rattle.cd_read.specs.Problems.{IsFormed, AreUnits};
 ghost use Rattle.cd_peer.specs.Finished.{IsFinished};
 ghost use Rattle.cd_top.specs.Ends.{verdict_answer, verdict_text, IsRunAnswer};
-ghost use Rattle.cd_top.specs.Headline.{RunEnds, Refutes};
+ghost use Rattle.cd_top.specs.Headline.{HasDefaults, RunEnds, Refutes};
 
 use crate::answer::{Account, Answer, Turns};
 use crate::texts::{refuted_text, saturated_text, spent_text};
@@ -24,6 +24,7 @@ pub fn solve(alloc: Global, problem: Problem) -> Result<(Answer, Account), Alloc
     requires few { length problem.inputs ≤ 200 }
     requires units { AreUnits problem.inputs }
     ensures problem { IfOk result (λ r. r.1.problem ≡ Some problem) }
+    ensures defaults { IfOk result (λ r. HasDefaults r.1) }
     ensures run { IfOk result (λ r. RunEnds r.1 r.0 (Some problem)) }
     ensures refutes { IfOk result (λ r. Refutes r.0 (Some problem)) }
     ensures answer { IfOk result (λ r. IsRunAnswer r.0) }
