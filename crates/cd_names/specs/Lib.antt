@@ -1,0 +1,4 @@
+pub mod Orders
+pub mod Shares
+pub mod Waves
+pub mod Laws
