@@ -1,6 +1,9 @@
 //! Each run is named by what it shows. Expected texts are worked out by hand from the output format.
+use cd_ledger::{Limits, Outcome};
 use cd_list::{Sequence, Text};
-use cd_outside::{Fails, OpenGate, Page, Shelf};
+use cd_outside::{Bytes, Fails, OpenGate, Page, Shelf};
+use cd_read::read_problem;
+use cd_text::put_number;
 use cd_top::prove;
 use std::alloc::{AllocError, Global};
 use std::sync::Wait;
@@ -84,6 +87,157 @@ cnf(c3,plain,$false,inference(resolve,[status(thm),at(0,0),subst([])],[c1,c2])).
 ";
     assert_eq!(rt; status, 0);
     assert_eq!(rt; page.bytes(), text.as_slice());
+    Ok(())
+}
+
+#[test]
+fn a_tautology_is_dropped(rt: HostRuntime) -> Result<(), Fail> {
+    let (status, page) = run(
+        &rt,
+        rt.alloc(),
+        Some("t.p"),
+        b"cnf(a,axiom,p | ~p).\n".as_slice(),
+        Sequence::new(rt.alloc()),
+    )?;
+    let text = b"% SZS status GaveUp for t.p
+% aquarius saturated, peers 1, clauses 0
+% aquarius list start
+% aquarius list end
+";
+    assert_eq!(rt; status, 1);
+    assert_eq!(rt; page.bytes(), text.as_slice());
+    Ok(())
+}
+
+#[test]
+fn the_outcome_of_a_tautology_is_trivial(rt: HostRuntime) -> Result<(), Fail> {
+    let alloc = rt.alloc();
+    let mut library = shelf_of(alloc, "t.p", b"cnf(a,axiom,p | ~p).\n".as_slice())?;
+    let path = Text::of(alloc, "t.p")?;
+    let Ok(problem) = read_problem(alloc, &mut library, &path) else {
+        assert!(rt; false);
+        return Ok(());
+    };
+    let local = cd_peer::run(alloc, &problem, Limits { steps: 50_000 })?;
+    assert_eq!(rt; local.settled.len(), 1);
+    let trivial = match local.settled.get(0) {
+        Some(entry) => match entry.outcome {
+            Outcome::Trivial => true,
+            _ => false,
+        },
+        None => false,
+    };
+    assert!(rt; trivial);
+    Ok(())
+}
+
+#[test]
+fn a_clause_that_another_subsumes_is_dropped(rt: HostRuntime) -> Result<(), Fail> {
+    let (status, page) = run(
+        &rt,
+        rt.alloc(),
+        Some("t.p"),
+        b"cnf(a,axiom,p).\ncnf(b,axiom,q | p).\ncnf(c,axiom,~q | r).\n".as_slice(),
+        Sequence::new(rt.alloc()),
+    )?;
+    let text = b"% SZS status GaveUp for t.p
+% aquarius saturated, peers 1, clauses 2
+% aquarius list start
+cnf(n0_0,plain,(p)).
+cnf(n0_1,plain,(~q | r)).
+% aquarius list end
+";
+    assert_eq!(rt; status, 1);
+    assert_eq!(rt; page.bytes(), text.as_slice());
+    Ok(())
+}
+
+#[test]
+fn repeated_literals_are_tidied_in_a_line_of_their_own(rt: HostRuntime) -> Result<(), Fail> {
+    let file = b"cnf(a,axiom,q | p).\ncnf(b,axiom,~p | q).\ncnf(c,axiom,~q).\n";
+    let (status, page) = run(
+        &rt,
+        rt.alloc(),
+        Some("t.p"),
+        file.as_slice(),
+        Sequence::new(rt.alloc()),
+    )?;
+    let text = b"% SZS status Unsatisfiable for t.p
+% SZS output start CNFRefutation for t.p
+cnf(c1,axiom,(q | p),file('t.p',a)).
+cnf(c2,axiom,(~p | q),file('t.p',b)).
+cnf(c3,axiom,(~q),file('t.p',c)).
+cnf(c4,plain,(q | q),inference(resolve,[status(thm),at(1,0),subst([])],[c1,c2])).
+cnf(c5,plain,(q),inference(tidy,[status(thm)],[c4])).
+cnf(c6,plain,$false,inference(resolve,[status(thm),at(0,0),subst([])],[c5,c3])).
+% SZS output end CNFRefutation for t.p
+";
+    assert_eq!(rt; status, 0);
+    assert_eq!(rt; page.bytes(), text.as_slice());
+    Ok(())
+}
+
+// A file of this many unit clauses, no two alike.
+fn units(alloc: Global, count: u64) -> Result<Bytes, AllocError> {
+    let mut file = Sequence::new(alloc);
+    for number in 0..count {
+        file.extend(b"cnf(a,axiom,p")?;
+        put_number(&mut file, number)?;
+        file.extend(b").\n")?;
+    }
+    Ok(file)
+}
+
+#[test]
+fn a_peer_stops_at_its_fifty_thousandth_task(rt: HostRuntime) -> Result<(), Fail> {
+    let file = units(rt.alloc(), 224)?;
+    let (status, page) = run(
+        &rt,
+        rt.alloc(),
+        Some("t.p"),
+        file.as_slice(),
+        Sequence::new(rt.alloc()),
+    )?;
+    let text = b"% SZS status ResourceOut for t.p
+% aquarius spent, peer 0, units 50000
+";
+    assert_eq!(rt; status, 2);
+    assert_eq!(rt; page.bytes(), text.as_slice());
+    Ok(())
+}
+
+#[test]
+fn as_many_tasks_as_it_may_are_done(rt: HostRuntime) -> Result<(), Fail> {
+    let file = units(rt.alloc(), 223)?;
+    let (status, _) = run(
+        &rt,
+        rt.alloc(),
+        Some("t.p"),
+        file.as_slice(),
+        Sequence::new(rt.alloc()),
+    )?;
+    assert_eq!(rt; status, 1);
+    Ok(())
+}
+
+#[test]
+fn a_file_of_65536_bytes_is_read_and_no_longer_one(rt: HostRuntime) -> Result<(), Fail> {
+    let mut file = Sequence::new(rt.alloc());
+    for _ in 0u64..4_097 {
+        file.extend(b"cnf(a,axiom,p).\n")?;
+    }
+    file.truncate(65_536);
+    let fails = Sequence::new(rt.alloc());
+    let (status, _) = run(&rt, rt.alloc(), Some("t.p"), file.as_slice(), fails)?;
+    assert_eq!(rt; status, 1);
+    file.extend(b"\n")?;
+    let fails = Sequence::new(rt.alloc());
+    let (status, page) = run(&rt, rt.alloc(), Some("t.p"), file.as_slice(), fails)?;
+    assert_eq!(rt; status, 65);
+    assert_eq!(rt;
+        page.bytes(),
+        b"% aquarius refused, not built, file 't.p', byte 0\n".as_slice()
+    );
     Ok(())
 }
 

@@ -1,16 +1,17 @@
 -- Which names are wanted, and which records are chosen.
-use Rattle.std.proofs.Common.{◌≡◌, ◌≢◌, ℕ, zero, suc, ◌+◌, ◌<◌, ◌≤◌, ◌==◌, Bool, true, false, ◌&&◌, ◌||◌, cond, List, [], ◌∷◌, ◌++◌, length, Some, slice_get, refl, sym, ap, ◌∙◌, subst, arith, append_assoc, append-nil}
-use Rattle.std.specs.List.{AllByRecursion, filter, find}
+use Rattle.std.proofs.Common.{◌≡◌, ◌≢◌, ℕ, zero, suc, ◌+◌, ◌<◌, ◌≤◌, ◌==◌, Bool, true, false, ◌&&◌, ◌||◌, cond, List, [], ◌∷◌, ◌++◌, length, Option, Some, None, slice_get, refl, sym, ap, ◌∙◌, subst, arith, append_assoc, append-nil}
+use Rattle.std.specs.List.{AllByRecursion, filter, find, flat_map, list_any}
 use Rattle.std.proofs.lemmas.Bool.Decides.{nat_tests}
 use Rattle.std.proofs.lemmas.List.{length-append}
 use Rattle.std.proofs.lemmas.List.Folds.{list_any-append}
 use Rattle.cd_clause.specs.declared.Clause.{Clause}
-use Rattle.cd_steps.specs.declared.Name.{Name}
+use Rattle.cd_names.specs.declared.names.Name.{Name}
 use Rattle.cd_steps.specs.declared.Step.{Step}
-use Rattle.cd_steps.specs.declared.Step.TheVariants.{Input, Resolve}
+use Rattle.cd_steps.specs.declared.Step.TheVariants.{Input, Resolve, Tidy}
 use Rattle.cd_read.specs.declared.problem.Problem.{Problem}
 use Rattle.cd_ledger.specs.declared.Record.{Record}
-use Rattle.cd_ledger.specs.Names.{name_eq, cites_of}
+use Rattle.cd_ledger.specs.Names.{name_eq, names_in, add_once, each_once, cites_of}
+use Rattle.cd_ledger.proofs.Lists.{all_append}
 use Rattle.cd_laws.specs.Right.{IsNamed, AreStepsRight, IsRecordRight, AreRecordsRight}
 use Rattle.cd_build.specs.Derivation.{Chosen, is_wanted, choose}
 use Rattle.cd_build.specs.Marks.{IsPlace}
@@ -57,11 +58,67 @@ none_later me count (m ∷ ns) n all late =
     let before : m.seq < count = all.0.earlier in
     ap (λ (b : Bool). b || is_wanted ns n) (other_name m n (λ e. absurd (omega arith))) ∙ none_later me count ns n all.1 late
 
--- ---- what a right record cites
+-- ---- names, each once
 
-pair_placed : (me count : ℕ) (pos neg : Name) (b : Bool) → IsPlace me count pos → IsPlace me count neg → AllByRecursion (IsPlace me count) (cond (b || false) (pos ∷ []) (pos ∷ neg ∷ []))
-pair_placed me count pos neg true at_pos at_neg = (at_pos, tt)
-pair_placed me count pos neg false at_pos at_neg = (at_pos, (at_neg, tt))
+both_true : (b c : Bool) → (b && c) ≡ true → (b ≡ true) × (c ≡ true)
+both_true true c h = (refl, h)
+both_true false c h = absurd cc
+
+equal_numbers : (m n : ℕ) → (m == n) ≡ true → m ≡ n
+equal_numbers m n h = grind (arith, nat_tests, h)
+
+equal_names : (a b : Name) → name_eq a b ≡ true → a ≡ b
+equal_names a b h =
+    let both = both_true (a.peer == b.peer) (a.seq == b.seq) h in
+    same_parts a b (equal_numbers a.peer b.peer both.0) (equal_numbers a.seq b.seq both.1)
+
+-- what holds of names holds of each of them once
+once_each : (P : Name → Type 0) (seen ns : List Name) → AllByRecursion P seen → AllByRecursion P ns → AllByRecursion P (each_once seen ns)
+once_each P seen [] before all = before
+once_each P seen (n ∷ ns) before all = once_each P (add_once seen n) ns (by (list_any (λ m. name_eq m n) seen)) all.1
+  where
+    by : (b : Bool) → AllByRecursion P (cond b seen (seen ++ n ∷ []))
+    by true = before
+    by false = all_append P seen (n ∷ []) before (all.0, tt)
+
+add_more : (seen : List Name) (m n : Name) → is_wanted seen n ≡ true → is_wanted (add_once seen m) n ≡ true
+add_more seen m n is = by (list_any (λ x. name_eq x m) seen)
+  where
+    by : (b : Bool) → is_wanted (cond b seen (seen ++ m ∷ [])) n ≡ true
+    by true = is
+    by false = wanted_append seen (m ∷ []) n ∙ ap (λ (b : Bool). b || is_wanted (m ∷ []) n) is
+
+add_own : (seen : List Name) (n : Name) → is_wanted (add_once seen n) n ≡ true
+add_own seen n = by (list_any (λ x. name_eq x n) seen) refl
+  where
+    by : (b : Bool) → list_any (λ x. name_eq x n) seen ≡ b → is_wanted (cond b seen (seen ++ n ∷ [])) n ≡ true
+    by true is = is
+    by false is = wanted_append seen (n ∷ []) n ∙ ap (λ (b : Bool). is_wanted seen n || (b || false)) (same_name n) ∙ or_true (is_wanted seen n)
+
+once_more : (seen ns : List Name) (n : Name) → is_wanted seen n ≡ true → is_wanted (each_once seen ns) n ≡ true
+once_more seen [] n is = is
+once_more seen (m ∷ ns) n is = once_more (add_once seen m) ns n (add_more seen m n is)
+
+once_wanted : (seen ns : List Name) (n : Name) → is_wanted ns n ≡ true → is_wanted (each_once seen ns) n ≡ true
+once_wanted seen [] n is = absurd cc
+once_wanted seen (m ∷ ns) n is = by (name_eq m n) refl is (once_wanted (add_once seen m) ns n)
+  where
+    by : (b : Bool) → name_eq m n ≡ b → (b || is_wanted ns n) ≡ true → (is_wanted ns n ≡ true → is_wanted (each_once (add_once seen m) ns) n ≡ true) → is_wanted (each_once (add_once seen m) ns) n ≡ true
+    by true same here later = subst (λ (x : Name). is_wanted (each_once (add_once seen m) ns) x ≡ true) (equal_names m n same) (once_more (add_once seen m) ns m (add_own seen m))
+    by false same here later = later here
+
+all_names : (P : Name → Type 0) (ns : List Name) → ((n : Name) → is_wanted ns n ≡ true → P n) → AllByRecursion P ns
+all_names P [] each = tt
+all_names P (n ∷ ns) each = (
+  each n (ap (λ (b : Bool). b || is_wanted ns n) (same_name n)),
+  all_names P ns (λ m is. each m (ap (λ (b : Bool). name_eq n m || b) is ∙ or_true (name_eq n m))),
+)
+
+-- what holds of what the steps cite holds of each name in them
+pub all_cited : (P : Name → Type 0) (ss : List Step) → ((n : Name) → is_wanted (cites_of ss) n ≡ true → P n) → AllByRecursion P (flat_map names_in ss)
+all_cited P ss each = all_names P (flat_map names_in ss) (λ n is. each n (once_wanted [] (flat_map names_in ss) n is))
+
+-- ---- what a right record cites
 
 within : {A : Type 0} (xs : List A) (k : ℕ) (x : A) → slice_get xs k ≡ Some x → k < length xs
 within [] k x there = absurd cc
@@ -71,25 +128,20 @@ within (y ∷ xs) (suc k) x there = let others = within xs k x there in omega ar
 named_placed : (me : ℕ) (before : List Record) (n : Name) (r : Record) → IsNamed me before n r → IsPlace me (length before) n
 named_placed me before n r is = record { peer = is.peer; earlier = within before n.seq r is.there }
 
-pub steps_placed : (p : Problem) (me : ℕ) (before : List Record) (ss : List Step) (c : Clause) → AreStepsRight p me before ss c → AllByRecursion (IsPlace me (length before)) (cites_of ss)
-steps_placed p me before [] c ok = absurd ok
-steps_placed p me before (Input k ∷ []) c ok = tt
-steps_placed p me before (Resolve pos i neg j subst ∷ []) c ok =
-    pair_placed me (length before) pos neg (name_eq pos neg) (named_placed me before pos ok.0 ok.2) (named_placed me before neg ok.1 ok.3)
-steps_placed p me before (s ∷ t ∷ ss) c ok = absurd ok
+names_placed : (p : Problem) (me : ℕ) (before : List Record) (current : Option Clause) (ss : List Step) (c : Clause) → AreStepsRight p me before current ss c → AllByRecursion (IsPlace me (length before)) (flat_map names_in ss)
+names_placed p me before current [] c ok = tt
+names_placed p me before current (Input k ∷ ss) c ok = names_placed p me before (Some ok.0) ss c ok.2
+names_placed p me before current (Resolve pos i neg j subst ∷ ss) c ok =
+    (named_placed me before pos ok.1.0 ok.1.2, (named_placed me before neg ok.1.1 ok.1.3, names_placed p me before (Some ok.0) ss c ok.2))
+names_placed p me before current (Tidy ∷ ss) c ok = names_placed p me before (Some ok.0) ss c ok.2
+
+steps_placed : (p : Problem) (me : ℕ) (before : List Record) (ss : List Step) (c : Clause) → AreStepsRight p me before None ss c → AllByRecursion (IsPlace me (length before)) (cites_of ss)
+steps_placed p me before ss c ok = once_each (IsPlace me (length before)) [] (flat_map names_in ss) tt (names_placed p me before None ss c ok)
 
 -- a record cites names of earlier places
 pub cites_placed : (p : Problem) (me : ℕ) (before : List Record) (r : Record) → IsRecordRight p me before r → AllByRecursion (IsPlace me (length before)) r.cites
 cites_placed p me before r ok =
     subst (λ (ns : List Name). AllByRecursion (IsPlace me (length before)) ns) (sym ok.cites) (steps_placed p me before r.steps r.clause ok.steps)
-
-pub first_cited : (pos neg : Name) (b : Bool) → is_wanted (cond (b || false) (pos ∷ []) (pos ∷ neg ∷ [])) pos ≡ true
-first_cited pos neg true = ap (λ (t : Bool). t || false) (same_name pos)
-first_cited pos neg false = ap (λ (t : Bool). t || (name_eq neg pos || false)) (same_name pos)
-
-pub second_cited : (pos neg : Name) (b : Bool) → name_eq pos neg ≡ b → is_wanted (cond (b || false) (pos ∷ []) (pos ∷ neg ∷ [])) neg ≡ true
-second_cited pos neg true is = ap (λ (t : Bool). t || false) is
-second_cited pos neg false is = ap (λ (t : Bool). t || (name_eq neg neg || false)) is ∙ ap (λ (t : Bool). t || false) (same_name neg)
 
 -- ---- lists of right records
 

@@ -1,4 +1,6 @@
 pub mod Choosing
+pub mod Tracing
+pub mod Adding
 pub mod Numbering
 pub mod Refuting
 pub mod Marking

@@ -1,83 +1,78 @@
 -- The numbers of lines, and that each line is right behind the earlier ones.
-use Rattle.std.proofs.Common.{◌≡◌, ℕ, suc, ◌+◌, ◌<◌, ◌≤◌, ◌==◌, Bool, true, false, cond, List, [], ◌∷◌, ◌++◌, length, Option, Some, refl, sym, ap, ◌∙◌, subst, arith, append_assoc, append-nil}
-use Rattle.std.specs.List.{AllByRecursion, filter, find}
+use Rattle.std.proofs.Common.{◌≡◌, ℕ, suc, ◌+◌, ◌<◌, ◌≤◌, ◌==◌, Bool, true, false, cond, List, [], ◌∷◌, ◌++◌, length, map, Option, None, Some, refl, sym, ap, ◌∙◌, subst, arith, append_assoc, append-nil}
+use Rattle.std.specs.List.{AllByRecursion, find, flat_map}
 use Rattle.std.proofs.lemmas.Bool.Decides.{nat_tests}
 use Rattle.std.proofs.lemmas.List.{length-append}
-use Rattle.std.proofs.lemmas.List.Elements.{filter-append}
 use Rattle.cd_clause.specs.declared.Clause.{Clause}
-use Rattle.cd_steps.specs.declared.Name.{Name}
+use Rattle.cd_names.specs.declared.names.Name.{Name}
 use Rattle.cd_steps.specs.declared.Step.{Step}
-use Rattle.cd_steps.specs.declared.Step.TheVariants.{Input, Resolve}
+use Rattle.cd_steps.specs.declared.Step.TheVariants.{Input, Resolve, Tidy}
 use Rattle.cd_read.specs.declared.problem.Problem.{Problem}
 use Rattle.cd_read.specs.declared.problem.Input.{Input as ProblemInput}
 use Rattle.cd_text.specs.declared.line.Line.{Line}
 use Rattle.cd_ledger.specs.declared.Record.{Record}
-use Rattle.cd_ledger.specs.Names.{name_eq, cites_of}
-use Rattle.cd_laws.specs.Right.{IsNamed, IsStepRight, AreStepsRight, IsRecordRight, AreRecordsRight}
+use Rattle.cd_ledger.specs.Names.{name_eq, names_in}
+use Rattle.cd_ledger.proofs.Lists.{all_append, all_weaker}
+use Rattle.cd_laws.specs.Right.{IsNamed, IsStepRight}
 use Rattle.cd_check.specs.Accepted.{clause_at, IsSourceOk, IsLineOk, AreLinesOk}
-use Rattle.cd_build.specs.Derivation.{is_wanted, choose, number_of, input_role, input_source, role_of, source_of, lines_of_steps, lines_from}
-use Rattle.cd_build.proofs.Choosing.{first_cited, second_cited, right_push, wanted_in, closed, find_named, find_kept}
+use Rattle.cd_build.specs.Derivation.{Traced, entry_of, number_of, input_role, input_source, role_of, source_of, lines_of_steps, lines_from}
+use Rattle.cd_build.proofs.Tracing.{AreSteps, all_split}
 
--- ---- records with one step
+-- ---- how many steps
 
-abbrev pub OneStep : Record → Type 0
-OneStep r = length r.steps ≡ 1
+-- the number of the steps of records
+abbrev pub total : List Record → ℕ
+total [] = 0
+total (r ∷ rs) = length r.steps + total rs
 
-steps_one : (p : Problem) (me : ℕ) (before : List Record) (ss : List Step) (c : Clause) → AreStepsRight p me before ss c → length ss ≡ 1
-steps_one p me before [] c ok = absurd ok
-steps_one p me before (s ∷ []) c ok = refl
-steps_one p me before (s ∷ t ∷ ss) c ok = absurd ok
+pub total_append : (xs ys : List Record) → total (xs ++ ys) ≡ total xs + total ys
+total_append [] ys = omega arith
+total_append (x ∷ xs) ys = let others = total_append xs ys in omega arith
 
-pub records_one : (p : Problem) (me : ℕ) (before rs : List Record) → AreRecordsRight p me before rs → AllByRecursion OneStep rs
-records_one p me before [] ok = tt
-records_one p me before (r ∷ rs) ok = (steps_one p me before r.steps r.clause ok.0.steps, records_one p me (before ++ r ∷ []) rs ok.1)
+pub entries_append : (xs ys : List Traced) → map entry_of (xs ++ ys) ≡ map entry_of xs ++ map entry_of ys
+entries_append [] ys = refl
+entries_append (x ∷ xs) ys = ap (λ (l : List Record). x.entry ∷ l) (entries_append xs ys)
 
-pub all_filter : {A : Type 0} (P : A → Type 0) (keeps : A → Bool) (xs : List A) → AllByRecursion P xs → AllByRecursion P (filter keeps xs)
-all_filter P keeps [] all = tt
-all_filter {A} P keeps (x ∷ xs) all = by (keeps x) (all_filter P keeps xs all.1)
-  where
-    by : (b : Bool) → AllByRecursion P (filter keeps xs) → AllByRecursion P (cond b (x ∷ filter keeps xs) (filter keeps xs))
-    by true others = (all.0, others)
-    by false others = others
+-- a record whose steps are right over some records, with the clauses that they give
+pub record IsTracedRight (p : Problem) (me : ℕ) (t : Traced) : Type 0 where
+  pub before : List Record
+  pub steps : AreSteps p me before None t.entry.steps t.clauses t.entry.clause
 
--- the one line of one step
-pub record IsLine (p : Problem) (records : List Record) (k : ℕ) (c : Clause) (ss : List Step) : Type 0 where
-  pub line : Line
-  pub is : lines_of_steps p records k c ss ≡ line ∷ []
-  pub number : line.number ≡ k + 1
-  pub clause : line.clause ≡ c
+some_step : (p : Problem) (me : ℕ) (before : List Record) (ss : List Step) (cs : List Clause) (c : Clause) → AreSteps p me before None ss cs c → 0 < length ss
+some_step p me before [] cs c ok = let none = ok.1 in absurd cc
+some_step p me before (s ∷ ss) cs c ok = omega arith
 
-pub one_line : (p : Problem) (records : List Record) (k : ℕ) (c : Clause) (ss : List Step) → length ss ≡ 1 → IsLine p records k c ss
-one_line p records k c [] one = absurd (omega arith)
-one_line p records k c (s ∷ []) one =
-    record { line = record { number = k + 1; role = role_of p s; clause = c; source = source_of p records s }; is = refl; number = refl; clause = refl }
-one_line p records k c (s ∷ t ∷ ss) one = absurd (omega arith)
+length_steps : (p : Problem) (me : ℕ) (before records : List Record) (current : Option Clause) (k : ℕ) (ss : List Step) (cs : List Clause) (c : Clause) → AreSteps p me before current ss cs c
+    → length (lines_of_steps p records k ss cs) ≡ length ss
+length_steps p me before records current k [] cs c ok = refl
+length_steps p me before records current k (s ∷ ss) cs c ok =
+    ap (λ (l : List Clause). length (lines_of_steps p records k (s ∷ ss) l)) ok.4 ∙ ap suc (length_steps p me before records (Some ok.0) (k + 1) ss ok.1 c ok.3)
 
--- ---- lists of lines
+pub length_lines : (p : Problem) (me : ℕ) (records : List Record) (k : ℕ) (ts : List Traced) → AllByRecursion (IsTracedRight p me) ts → length (lines_from p records k ts) ≡ total (map entry_of ts)
+length_lines p me records k [] all = refl
+length_lines p me records k (t ∷ ts) all =
+    let here = length_steps p me all.0.before records None k t.entry.steps t.clauses t.entry.clause all.0.steps in
+    let others = length_lines p me records (k + length t.entry.steps) ts all.1 in
+    omega (arith, here, others, length-append (lines_of_steps p records k t.entry.steps t.clauses) (lines_from p records (k + length t.entry.steps) ts))
 
-pub lines_append : (p : Problem) (records : List Record) (k : ℕ) (xs ys : List Record) → lines_from p records k (xs ++ ys) ≡ lines_from p records k xs ++ lines_from p records (k + length xs) ys
+pub lines_append : (p : Problem) (records : List Record) (k : ℕ) (xs ys : List Traced) → lines_from p records k (xs ++ ys) ≡ lines_from p records k xs ++ lines_from p records (k + total (map entry_of xs)) ys
 lines_append p records k [] ys = ap (λ (n : ℕ). lines_from p records n ys) (omega arith)
 lines_append p records k (x ∷ xs) ys =
-    let head = lines_of_steps p records k x.clause x.steps in
-    let e : k + 1 + length xs ≡ k + suc (length xs) = omega arith in
-    ap (λ (l : List Line). head ++ l) (lines_append p records (k + 1) xs ys ∙ ap (λ (n : ℕ). lines_from p records (k + 1) xs ++ lines_from p records n ys) e)
-    ∙ sym (append_assoc head (lines_from p records (k + 1) xs) (lines_from p records (k + suc (length xs)) ys))
+    let head = lines_of_steps p records k x.entry.steps x.clauses in
+    let next = k + length x.entry.steps in
+    let e : next + total (map entry_of xs) ≡ k + (length x.entry.steps + total (map entry_of xs)) = omega arith in
+    ap (λ (l : List Line). head ++ l) (lines_append p records next xs ys ∙ ap (λ (n : ℕ). lines_from p records next xs ++ lines_from p records n ys) e)
+    ∙ sym (append_assoc head (lines_from p records next xs) (lines_from p records (k + (length x.entry.steps + total (map entry_of xs))) ys))
 
-pub length_lines : (p : Problem) (records : List Record) (k : ℕ) (xs : List Record) → AllByRecursion OneStep xs → length (lines_from p records k xs) ≡ length xs
-length_lines p records k [] one = refl
-length_lines p records k (x ∷ xs) one =
-    let l = one_line p records k x.clause x.steps one.0 in
-    ap (λ (h : List Line). length (h ++ lines_from p records (k + 1) xs)) l.is ∙ ap suc (length_lines p records (k + 1) xs one.1)
-
--- ---- numbers
-
-pub number_small : (k : ℕ) (rs : List Record) (n : Name) → number_of k rs n ≤ k + length rs
+pub number_small : (k : ℕ) (rs : List Record) (n : Name) → number_of k rs n ≤ k + total rs
 number_small k [] n = omega arith
-number_small k (r ∷ rs) n = by (name_eq r.name n) (number_small (k + 1) rs n)
+number_small k (r ∷ rs) n = by (name_eq r.name n) (number_small (k + length r.steps) rs n)
   where
-    by : (b : Bool) → number_of (k + 1) rs n ≤ k + 1 + length rs → cond b (k + 1) (number_of (k + 1) rs n) ≤ k + suc (length rs)
+    by : (b : Bool) → number_of (k + length r.steps) rs n ≤ k + length r.steps + total rs → cond b (k + length r.steps) (number_of (k + length r.steps) rs n) ≤ k + (length r.steps + total rs)
     by true others = omega arith
     by false others = omega arith
+
+-- ---- the clause of a line
 
 same_number : (n : ℕ) → (n == n) ≡ true
 same_number n = grind (arith, nat_tests)
@@ -85,138 +80,168 @@ same_number n = grind (arith, nat_tests)
 other_number : (m n : ℕ) → m < n → (m == n) ≡ false
 other_number m n h = grind (arith, nat_tests)
 
+at_more : (xs ys : List Line) (n : ℕ) (c : Clause) → clause_at xs n ≡ Some c → clause_at (xs ++ ys) n ≡ Some c
+at_more [] ys n c is = absurd cc
+at_more (x ∷ xs) ys n c is = by (x.number == n) is (at_more xs ys n c)
+  where
+    by : (b : Bool) → cond b (Some x.clause) (clause_at xs n) ≡ Some c → (clause_at xs n ≡ Some c → clause_at (xs ++ ys) n ≡ Some c) → cond b (Some x.clause) (clause_at (xs ++ ys) n) ≡ Some c
+    by true here later = here
+    by false here later = later here
+
+at_behind : (xs ys : List Line) (k n : ℕ) → AllByRecursion (λ l. l.number ≤ k) xs → k < n → clause_at (xs ++ ys) n ≡ clause_at ys n
+at_behind [] ys k n all small = refl
+at_behind (x ∷ xs) ys k n all small =
+    let first : x.number ≤ k = all.0 in
+    ap (λ (b : Bool). cond b (Some x.clause) (clause_at (xs ++ ys) n)) (other_number x.number n (omega arith)) ∙ at_behind xs ys k n all.1 small
+
+-- lines up to number k, of which line k has the clause before the next step
+pub record IsBehind (lines : List Line) (k : ℕ) (current : Option Clause) : Type 0 where
+  pub numbers : AllByRecursion (λ l. l.number ≤ k) lines
+  pub last : (c : Clause) → current ≡ Some c → clause_at lines k ≡ Some c
+
+behind_more : (lines : List Line) (k : ℕ) (current : Option Clause) (l : Line) → l.number ≡ k + 1 → IsBehind lines k current → IsBehind (lines ++ l ∷ []) (k + 1) (Some l.clause)
+behind_more lines k current l number behind =
+    let test : (l.number == k + 1) ≡ true = ap (λ (m : ℕ). m == k + 1) number ∙ same_number (k + 1) in
+    record {
+      numbers = all_append (λ x. x.number ≤ k + 1) lines (l ∷ []) (all_weaker (λ x. x.number ≤ k) (λ x. x.number ≤ k + 1) lines (λ x h. omega arith) behind.numbers) (omega arith, tt);
+      last = λ c is. at_behind lines (l ∷ []) k (k + 1) behind.numbers (omega arith) ∙ ap (λ (b : Bool). cond b (Some l.clause) None) test ∙ is;
+    }
+
+pub behind_steps : (p : Problem) (me : ℕ) (before records : List Record) (current : Option Clause) (ss : List Step) (cs : List Clause) (c : Clause) (lines : List Line) (k : ℕ) → AreSteps p me before current ss cs c
+    → IsBehind lines k current → IsBehind (lines ++ lines_of_steps p records k ss cs) (k + length ss) (Some c)
+behind_steps p me before records current [] cs c lines k ok behind =
+    let plus_zero : k ≡ k + 0 = omega arith in
+    subst (λ (l : List Line). IsBehind l (k + 0) (Some c)) (sym (append-nil lines)) (subst (λ (m : ℕ). IsBehind lines m (Some c)) plus_zero (subst (IsBehind lines k) ok.1 behind))
+behind_steps p me before records current (s ∷ ss) cs c lines k ok behind =
+    let d = ok.0 in
+    let line : Line = record { number = k + 1; role = role_of p s; clause = d; source = source_of p records k s } in
+    let others = behind_steps p me before records (Some d) ss ok.1 c (lines ++ line ∷ []) (k + 1) ok.3 (behind_more lines k current line refl behind) in
+    let e : k + 1 + length ss ≡ k + suc (length ss) = omega arith in
+    subst (λ (l : List Clause). IsBehind (lines ++ lines_of_steps p records k (s ∷ ss) l) (k + suc (length ss)) (Some c)) (sym ok.4)
+    (subst (λ (m : ℕ). IsBehind (lines ++ line ∷ lines_of_steps p records (k + 1) ss ok.1) m (Some c)) e
+    (subst (λ (l : List Line). IsBehind l (k + 1 + length ss) (Some c)) (append_assoc lines (line ∷ []) (lines_of_steps p records (k + 1) ss ok.1)) others))
+
+none_behind : (k : ℕ) → IsBehind [] k None
+none_behind k = record { numbers = tt; last = λ c is. absurd cc }
+
+record_behind : (p : Problem) (me : ℕ) (records : List Record) (k : ℕ) (t : Traced) → IsTracedRight p me t → IsBehind (lines_of_steps p records k t.entry.steps t.clauses) (k + length t.entry.steps) (Some t.entry.clause)
+record_behind p me records k t is = behind_steps p me is.before records None t.entry.steps t.clauses t.entry.clause [] k is.steps (none_behind k)
+
+numbers_from : (p : Problem) (me : ℕ) (records : List Record) (k : ℕ) (ts : List Traced) → AllByRecursion (IsTracedRight p me) ts → AllByRecursion (λ l. l.number ≤ k + total (map entry_of ts)) (lines_from p records k ts)
+numbers_from p me records k [] all = tt
+numbers_from p me records k (t ∷ ts) all =
+    let size = length t.entry.steps in
+    let more = total (map entry_of ts) in
+    all_append (λ l. l.number ≤ k + (size + more)) (lines_of_steps p records k t.entry.steps t.clauses) (lines_from p records (k + size) ts)
+    (all_weaker (λ l. l.number ≤ k + size) (λ l. l.number ≤ k + (size + more)) (lines_of_steps p records k t.entry.steps t.clauses) (λ l h. omega arith) (record_behind p me records k t all.0).numbers)
+    (all_weaker (λ l. l.number ≤ k + size + more) (λ l. l.number ≤ k + (size + more)) (lines_from p records (k + size) ts) (λ l h. omega arith) (numbers_from p me records (k + size) ts all.1))
+
 -- the line with the number of a name has the clause of the first record with that name
-pub record IsAt (k number : ℕ) (lines : List Line) (c : Clause) : Type 0 where
-  pub at : clause_at lines number ≡ Some c
-  pub behind : k < number
+record IsAt (k number : ℕ) (lines : List Line) (c : Clause) : Type 0 where
+  at : clause_at lines number ≡ Some c
+  behind : k < number
 
-clause_first : (p : Problem) (records : List Record) (k : ℕ) (x : Record) (fs : List Record) (l : Line) (number : ℕ) → lines_of_steps p records k x.clause x.steps ≡ l ∷ []
-    → clause_at (lines_from p records k (x ∷ fs)) number ≡ cond (l.number == number) (Some l.clause) (clause_at (lines_from p records (k + 1) fs) number)
-clause_first p records k x fs l number is = ap (λ (h : List Line). clause_at (h ++ lines_from p records (k + 1) fs) number) is
+look_number : (p : Problem) (me : ℕ) (records more : List Record) (k : ℕ) (ts : List Traced) (n : Name) (a : Record) → AllByRecursion (IsTracedRight p me) ts → find (λ x. name_eq x.name n) (map entry_of ts) ≡ Some a
+    → IsAt k (number_of k (map entry_of ts ++ more) n) (lines_from p records k ts) a.clause
+look_number p me records more k [] n a all found = absurd cc
+look_number p me records more k (t ∷ ts) n a all found = by (name_eq t.entry.name n) found (look_number p me records more next ts n a all.1)
+  where
+    next : ℕ
+    next = k + length t.entry.steps
 
-look_by : (b : Bool) (p : Problem) (records : List Record) (k number : ℕ) (x a : Record) (fs : List Record) (n : Name) → length x.steps ≡ 1 → cond b (Some x) (find (λ y. name_eq y.name n) fs) ≡ Some a
-    → (find (λ y. name_eq y.name n) fs ≡ Some a → IsAt (k + 1) number (lines_from p records (k + 1) fs) a.clause) → IsAt k (cond b (k + 1) number) (lines_from p records k (x ∷ fs)) a.clause
-look_by true p records k number x a fs n one here later =
-    let first = one_line p records k x.clause x.steps one in
-    let e : x ≡ a = cc in
-    let test : (first.line.number == k + 1) ≡ true = ap (λ (m : ℕ). m == k + 1) first.number ∙ same_number (k + 1) in
-    record {
-      at = clause_first p records k x fs first.line (k + 1) first.is ∙ ap (λ (t : Bool). cond t (Some first.line.clause) (clause_at (lines_from p records (k + 1) fs) (k + 1))) test
-          ∙ ap (λ (c : Clause). Some c) first.clause ∙ ap (λ (r : Record). Some r.clause) e;
-      behind = omega arith;
-    }
-look_by false p records k number x a fs n one here later =
-    let first = one_line p records k x.clause x.steps one in
-    let others = later here in
-    let after : k + 1 < number = others.behind in
-    let test : (first.line.number == number) ≡ false = ap (λ (m : ℕ). m == number) first.number ∙ other_number (k + 1) number after in
-    record {
-      at = clause_first p records k x fs first.line number first.is ∙ ap (λ (t : Bool). cond t (Some first.line.clause) (clause_at (lines_from p records (k + 1) fs) number)) test ∙ others.at;
-      behind = omega arith;
-    }
+    number : ℕ
+    number = number_of next (map entry_of ts ++ more) n
 
-pub look_number : (p : Problem) (records more : List Record) (k : ℕ) (fs : List Record) (n : Name) (a : Record) → AllByRecursion OneStep fs → find (λ x. name_eq x.name n) fs ≡ Some a
-    → IsAt k (number_of k (fs ++ more) n) (lines_from p records k fs) a.clause
-look_number p records more k [] n a one found = absurd cc
-look_number p records more k (x ∷ fs) n a one found =
-    look_by (name_eq x.name n) p records k (number_of (k + 1) (fs ++ more) n) x a fs n one.0 found (λ h. look_number p records more (k + 1) fs n a one.1 h)
+    by : (b : Bool) → cond b (Some t.entry) (find (λ y. name_eq y.name n) (map entry_of ts)) ≡ Some a → (find (λ y. name_eq y.name n) (map entry_of ts) ≡ Some a → IsAt next number (lines_from p records next ts) a.clause)
+        → IsAt k (cond b next number) (lines_of_steps p records k t.entry.steps t.clauses ++ lines_from p records next ts) a.clause
+    by true here later =
+        let e : t.entry ≡ a = cc in
+        let ends = record_behind p me records k t all.0 in
+        let some = some_step p me all.0.before t.entry.steps t.clauses t.entry.clause all.0.steps in
+        record {
+          at = at_more (lines_of_steps p records k t.entry.steps t.clauses) (lines_from p records next ts) next a.clause (ends.last a.clause (ap (λ (r : Record). Some r.clause) e));
+          behind = omega arith;
+        }
+    by false here later =
+        let others = later here in
+        let after : next < number = others.behind in
+        record {
+          at = at_behind (lines_of_steps p records k t.entry.steps t.clauses) (lines_from p records next ts) next number (record_behind p me records k t all.0).numbers after ∙ others.at;
+          behind = omega arith;
+        }
 
 -- ---- right lines
 
 -- what is cited among earlier records has its line
-Lined : Problem → ℕ → List Record → List Record → List Line → List Name → Type 0
-Lined p me records before lines cites = (n : Name) (a : Record) → is_wanted cites n ≡ true → IsNamed me before n a → clause_at lines (number_of 0 records n) ≡ Some a.clause
+IsLined : ℕ → List Record → List Record → List Line → Name → Type 0
+IsLined me before records lines n = (a : Record) → IsNamed me before n a → clause_at lines (number_of 0 records n) ≡ Some a.clause
 
-step_source : (p : Problem) (me : ℕ) (before records : List Record) (lines : List Line) (k : ℕ) (s : Step) (c : Clause) → IsStepRight p me before s c → Lined p me records before lines (cites_of (s ∷ []))
-    → IsSourceOk p lines (record { number = k + 1; role = role_of p s; clause = c; source = source_of p records s }) (source_of p records s)
-unfolding Lined
-step_source p me before records lines k (Input index) c ok lined =
+step_source : (p : Problem) (me : ℕ) (before records : List Record) (lines : List Line) (k : ℕ) (current : Option Clause) (s : Step) (c : Clause) → IsStepRight p me before current s c → AllByRecursion (IsLined me before records lines) (names_in s)
+    → IsBehind lines k current → IsSourceOk p lines (record { number = k + 1; role = role_of p s; clause = c; source = source_of p records k s }) (source_of p records k s)
+unfolding IsLined
+step_source p me before records lines k current (Input index) c ok lined behind =
     let i : ProblemInput = ok.0 in
     let clause : i.clause ≡ c = cc in
     subst (λ (o : Option ProblemInput). IsSourceOk p lines (record { number = k + 1; role = input_role o; clause = c; source = input_source o }) (input_source o)) (sym ok.1)
     (record { place = index; input = i; there = ok.1; role = refl; path_is = refl; label_is = refl; clause_is = clause })
-step_source p me before records lines k (Resolve pos i neg j subst) c ok lined =
-    let b = name_eq pos neg in (
-      ok.0.clause,
-      ok.1.clause,
-      lined pos ok.0 (first_cited pos neg b) ok.2,
-      lined neg ok.1 (second_cited pos neg b refl) ok.3,
-      ok.4,
-    )
+step_source p me before records lines k current (Resolve pos i neg j terms) c ok lined behind =
+    (number_of 0 records pos, number_of 0 records neg, ok.0.clause, ok.1.clause, refl, lined.0 ok.0 ok.2, lined.1.0 ok.1 ok.3, ok.4)
+step_source p me before records lines k None Tidy c ok lined behind = absurd ok
+step_source p me before records lines k (Some x) Tidy c ok lined behind = (k, x, refl, behind.last x refl, ok)
 
-record IsNext (p : Problem) (records : List Record) (lines : List Line) (k : ℕ) (c : Clause) (ss : List Step) : Type 0 where
-  line : Line
-  is : lines_of_steps p records k c ss ≡ line ∷ []
-  number : line.number ≡ k + 1
-  source : IsSourceOk p lines line line.source
+steps_right : (p : Problem) (me : ℕ) (before records : List Record) (current : Option Clause) (ss : List Step) (cs : List Clause) (c : Clause) (lines : List Line) (k : ℕ) (rest : List Line) → AreSteps p me before current ss cs c
+    → AllByRecursion (IsLined me before records lines) (flat_map names_in ss) → IsBehind lines k current → length lines ≡ k → AreLinesOk p (lines ++ lines_of_steps p records k ss cs) rest → AreLinesOk p lines (lines_of_steps p records k ss cs ++ rest)
+unfolding IsLined
+steps_right p me before records current [] cs c lines k rest ok lined behind size later = subst (λ (l : List Line). AreLinesOk p l rest) (append-nil lines) later
+steps_right p me before records current (s ∷ ss) cs c lines k rest ok lined behind size later =
+    let d = ok.0 in
+    let line : Line = record { number = k + 1; role = role_of p s; clause = d; source = source_of p records k s } in
+    let others = lines_of_steps p records (k + 1) ss ok.1 in
+    let halves = all_split (IsLined me before records lines) (names_in s) (flat_map names_in ss) lined in
+    let here : IsLineOk p lines line = record { number = ap (λ (m : ℕ). m + 1) (sym size); source = step_source p me before records lines k current s d ok.2 halves.0 behind } in
+    let grown : length (lines ++ line ∷ []) ≡ k + 1 = omega (arith, length-append lines (line ∷ [])) in
+    let after : AreLinesOk p ((lines ++ line ∷ []) ++ others) rest =
+    subst (λ (l : List Line). AreLinesOk p l rest) (sym (append_assoc lines (line ∷ []) others))
+    (subst (λ (l : List Clause). AreLinesOk p (lines ++ lines_of_steps p records k (s ∷ ss) l) rest) ok.4 later) in
+    let more = steps_right p me before records (Some d) ss ok.1 c (lines ++ line ∷ []) (k + 1) rest ok.3
+    (all_weaker (IsLined me before records lines) (IsLined me before records (lines ++ line ∷ [])) (flat_map names_in ss) (λ n h a named. at_more lines (line ∷ []) (number_of 0 records n) a.clause (h a named)) halves.1)
+    (behind_more lines k current line refl behind) grown after in
+    subst (λ (l : List Clause). AreLinesOk p lines (lines_of_steps p records k (s ∷ ss) l ++ rest)) (sym ok.4) (here, more)
 
-next_line : (p : Problem) (me : ℕ) (before records : List Record) (lines : List Line) (k : ℕ) (ss : List Step) (c : Clause) → AreStepsRight p me before ss c → Lined p me records before lines (cites_of ss) → IsNext p records lines k c ss
-next_line p me before records lines k [] c ok lined = absurd ok
-next_line p me before records lines k (s ∷ []) c ok lined =
-    record {
-      line = record { number = k + 1; role = role_of p s; clause = c; source = source_of p records s };
-      is = refl;
-      number = refl;
-      source = step_source p me before records lines k s c ok lined;
-    }
-next_line p me before records lines k (s ∷ t ∷ ss) c ok lined = absurd ok
+-- a record of a derivation: its steps are right over some records, which are sound, and what they name of these is found in front of it
+pub record IsLinked (p : Problem) (me : ℕ) (Sound : Record → Type 0) (front : List Record) (t : Traced) : Type 0 where
+  pub right : IsTracedRight p me t
+  pub sound : AllByRecursion Sound right.before
+  pub named : AllByRecursion (λ n. (a : Record) → IsNamed me right.before n a → find (λ x. name_eq x.name n) front ≡ Some a) (flat_map names_in t.entry.steps)
 
--- a cited earlier record that is kept has its line among the kept ones
-lined_kept : (p : Problem) (me : ℕ) (goal : List Name) (all before rest : List Record) (r : Record) → all ≡ before ++ r ∷ rest → AreRecordsRight p me [] before → IsRecordRight p me before r → wanted_in goal all r ≡ true
-    → Lined p me (filter (wanted_in goal all) all) before (lines_from p (filter (wanted_in goal all) all) 0 (filter (wanted_in goal all) before)) r.cites
-unfolding Lined wanted_in
-lined_kept p me goal all before rest r is right here kept n a cited named =
-    let keeps = wanted_in goal all in
-    let found = find_named p me [] before n n.seq a right named.peer (omega arith) named.there in
-    let wanted : is_wanted (choose goal all).wanted n ≡ true = closed p me goal all before rest r n is right here kept cited in
-    let a_kept : keeps a ≡ true = ap (λ (m : Name). is_wanted (choose goal all).wanted m) found.1 ∙ wanted in
-    let at : IsAt 0 (number_of 0 (filter keeps before ++ filter keeps (r ∷ rest)) n) (lines_from p (filter keeps all) 0 (filter keeps before)) a.clause =
-    look_number p (filter keeps all) (filter keeps (r ∷ rest)) 0 (filter keeps before) n a (all_filter OneStep keeps before (records_one p me [] before right)) (find_kept (λ x. name_eq x.name n) keeps before a found.0 a_kept) in
-    let whole : filter keeps all ≡ filter keeps before ++ filter keeps (r ∷ rest) = ap (filter keeps) is ∙ filter-append keeps before (r ∷ rest) in
-    ap (λ (l : List Record). clause_at (lines_from p (filter keeps all) 0 (filter keeps before)) (number_of 0 l n)) whole ∙ at.at
+abbrev pub AreLinked : Problem → ℕ → (Record → Type 0) → List Record → List Traced → Type 0
+AreLinked p me Sound front [] = Unit {0}
+AreLinked p me Sound front (t ∷ ts) = IsLinked p me Sound front t × AreLinked p me Sound (front ++ t.entry ∷ []) ts
 
-zero_plus : (n : ℕ) → 0 + n ≡ n
-zero_plus n = omega arith
-
--- the lines of what is kept of some records, behind those of what is kept of the earlier ones
-abbrev LinesBehind : Problem → (Record → Bool) → List Record → List Record → List Record → Type 0
-LinesBehind p keeps records before rest = AreLinesOk p (lines_from p records 0 (filter keeps before)) (lines_from p records (length (filter keeps before)) rest)
-
-right_by : (b : Bool) (p : Problem) (me : ℕ) (keeps : Record → Bool) (records before rest : List Record) (r : Record) → keeps r ≡ b → AreRecordsRight p me [] before → AreStepsRight p me before r.steps r.clause
-    → (keeps r ≡ true → Lined p me records before (lines_from p records 0 (filter keeps before)) (cites_of r.steps))
-    → LinesBehind p keeps records (before ++ r ∷ []) (filter keeps rest) → LinesBehind p keeps records before (cond b (r ∷ filter keeps rest) (filter keeps rest))
-right_by true p me keeps records before rest r holds right steps lined others =
-    let kept = filter keeps before in
-    let lines = lines_from p records 0 kept in
-    let next = next_line p me before records lines (length kept) r.steps r.clause steps (lined holds) in
-    let one : filter keeps (r ∷ []) ≡ r ∷ [] = ap (λ (t : Bool). cond t (r ∷ []) []) holds in
-    let grown : filter keeps (before ++ r ∷ []) ≡ kept ++ r ∷ [] = filter-append keeps before (r ∷ []) ∙ ap (λ (l : List Record). kept ++ l) one in
-    let count : length (filter keeps (before ++ r ∷ [])) ≡ length kept + 1 = ap length grown ∙ length-append kept (r ∷ []) in
-    let alone : lines_from p records (0 + length kept) (r ∷ []) ≡ next.line ∷ [] =
-    ap (λ (m : ℕ). lines_of_steps p records m r.clause r.steps ++ []) (zero_plus (length kept)) ∙ ap (λ (l : List Line). l ++ []) next.is in
-    let behind : lines_from p records 0 (filter keeps (before ++ r ∷ [])) ≡ lines ++ next.line ∷ [] =
-    ap (lines_from p records 0) grown ∙ lines_append p records 0 kept (r ∷ []) ∙ ap (λ (l : List Line). lines ++ l) alone in
-    let size : length lines ≡ length kept = length_lines p records 0 kept (all_filter OneStep keeps before (records_one p me [] before right)) in
-    let here : IsLineOk p lines next.line = record { number = next.number ∙ ap (λ (m : ℕ). m + 1) (sym size); source = next.source } in
-    let later : AreLinesOk p (lines ++ next.line ∷ []) (lines_from p records (length kept + 1) (filter keeps rest)) =
-    subst (λ (m : ℕ). AreLinesOk p (lines ++ next.line ∷ []) (lines_from p records m (filter keeps rest))) count
-    (subst (λ (l : List Line). AreLinesOk p l (lines_from p records (length (filter keeps (before ++ r ∷ []))) (filter keeps rest))) behind others) in
-    subst (λ (l : List Line). AreLinesOk p lines (l ++ lines_from p records (length kept + 1) (filter keeps rest))) (sym next.is) (here, later)
-right_by false p me keeps records before rest r holds right steps lined others =
-    let kept = filter keeps before in
-    let none : filter keeps (r ∷ []) ≡ [] = ap (λ (t : Bool). cond t (r ∷ []) []) holds in
-    let same : filter keeps (before ++ r ∷ []) ≡ kept = filter-append keeps before (r ∷ []) ∙ ap (λ (l : List Record). kept ++ l) none ∙ append-nil kept in
-    subst (λ (l : List Record). AreLinesOk p (lines_from p records 0 l) (lines_from p records (length l) (filter keeps rest))) same others
-
--- the lines of the records whose names are wanted are right
-pub lines_right : (p : Problem) (me : ℕ) (goal : List Name) (all before rest : List Record) → all ≡ before ++ rest → AreRecordsRight p me [] before → AreRecordsRight p me before rest
-    → LinesBehind p (wanted_in goal all) (filter (wanted_in goal all) all) before (filter (wanted_in goal all) rest)
-lines_right p me goal all before [] is right right_rest = tt
-lines_right p me goal all before (r ∷ rest) is right right_rest =
-    let keeps = wanted_in goal all in
-    let records = filter keeps all in
-    let lines = lines_from p records 0 (filter keeps before) in
-    let more : all ≡ (before ++ r ∷ []) ++ rest = is ∙ sym (append_assoc before (r ∷ []) rest) in
-    right_by (keeps r) p me keeps records before rest r refl right right_rest.0.steps
-    (λ holds. subst (Lined p me records before lines) right_rest.0.cites (lined_kept p me goal all before rest r is right right_rest.0 holds))
-    (lines_right p me goal all (before ++ r ∷ []) rest more (right_push p me [] before r right right_rest.0) right_rest.1)
+-- the lines of linked records are right behind those in front of them
+pub lines_right : (p : Problem) (me : ℕ) (Sound : Record → Type 0) (records : List Record) (fs ts : List Traced) → records ≡ map entry_of fs ++ map entry_of ts → AllByRecursion (IsTracedRight p me) fs
+    → AreLinked p me Sound (map entry_of fs) ts → AreLinesOk p (lines_from p records 0 fs) (lines_from p records (total (map entry_of fs)) ts)
+unfolding IsLined
+lines_right p me Sound records fs [] is all linked = tt
+lines_right p me Sound records fs (t ∷ ts) is all linked =
+    let here = linked.0 in
+    let lines = lines_from p records 0 fs in
+    let k = total (map entry_of fs) in
+    let size = length t.entry.steps in
+    let new = lines_of_steps p records k t.entry.steps t.clauses in
+    let lined : AllByRecursion (IsLined me here.right.before records lines) (flat_map names_in t.entry.steps) =
+    all_weaker (λ n. (a : Record) → IsNamed me here.right.before n a → find (λ x. name_eq x.name n) (map entry_of fs) ≡ Some a) (IsLined me here.right.before records lines) (flat_map names_in t.entry.steps)
+    (λ n h a named. subst (λ (l : List Record). clause_at lines (number_of 0 l n) ≡ Some a.clause) (sym is) (look_number p me records (map entry_of (t ∷ ts)) 0 fs n a all (h a named)).at) here.named in
+    let zero_plus : 0 + k ≡ k = omega arith in
+    let behind : IsBehind lines k None = record { numbers = subst (λ (m : ℕ). AllByRecursion (λ l. l.number ≤ m) lines) zero_plus (numbers_from p me records 0 fs all); last = λ c none. absurd cc } in
+    let entries : map entry_of (fs ++ t ∷ []) ≡ map entry_of fs ++ t.entry ∷ [] = entries_append fs (t ∷ []) in
+    let count : total (map entry_of (fs ++ t ∷ [])) ≡ k + size = omega (arith, ap total entries, total_append (map entry_of fs) (t.entry ∷ [])) in
+    let grown : lines_from p records 0 (fs ++ t ∷ []) ≡ lines ++ new =
+    lines_append p records 0 fs (t ∷ []) ∙ ap (λ (m : ℕ). lines ++ (lines_of_steps p records m t.entry.steps t.clauses ++ [])) zero_plus ∙ ap (λ (l : List Line). lines ++ l) (append-nil new) in
+    let split : records ≡ map entry_of (fs ++ t ∷ []) ++ map entry_of ts =
+    is ∙ sym (append_assoc (map entry_of fs) (t.entry ∷ []) (map entry_of ts)) ∙ ap (λ (l : List Record). l ++ map entry_of ts) (sym entries) in
+    let others = lines_right p me Sound records (fs ++ t ∷ []) ts split (all_append (IsTracedRight p me) fs (t ∷ []) all (here.right, tt))
+    (subst (λ (l : List Record). AreLinked p me Sound l ts) (sym entries) linked.1) in
+    let later : AreLinesOk p (lines ++ new) (lines_from p records (k + size) ts) =
+    subst (λ (l : List Line). AreLinesOk p l (lines_from p records (k + size) ts)) grown (subst (λ (m : ℕ). AreLinesOk p (lines_from p records 0 (fs ++ t ∷ [])) (lines_from p records m ts)) count others) in
+    steps_right p me here.right.before records None t.entry.steps t.clauses t.entry.clause lines k (lines_from p records (k + size) ts) here.right.steps lined behind (length_lines p me records 0 fs all) later

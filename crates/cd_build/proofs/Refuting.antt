@@ -1,116 +1,193 @@
 -- The lines of a peer that recorded the empty clause are a refutation.
-use Rattle.std.proofs.Common.{◌≡◌, ℕ, zero, suc, ◌+◌, ◌^◌, ◌<◌, ◌≤◌, Bool, true, false, ◌||◌, cond, List, [], ◌∷◌, ◌++◌, length, map, remove, Option, Some, slice_get, refl, sym, ap, ◌∙◌, subst, arith, append-nil}
-use Rattle.std.specs.List.{AllByRecursion, filter}
+use Rattle.std.proofs.Common.{◌≡◌, ℕ, suc, ◌+◌, ◌*◌, ◌^◌, ◌<◌, ◌≤◌, Bool, true, false, ◌||◌, inl, inr, cond, List, [], ◌∷◌, ◌++◌, length, map, remove, Option, Some, None, refl, sym, ap, ◌∙◌, subst, arith, append_assoc, append-nil}
+use Rattle.std.specs.List.{AllByRecursion, filter, find, flat_map}
+use Rattle.std.proofs.lemmas.List.{length-append}
 use Rattle.std.proofs.lemmas.List.Elements.{filter-append}
+use Rattle.cd_term.specs.declared.Term.{Term}
+use Rattle.cd_term.specs.Terms.{substituted, order_of, ranked}
+use Rattle.cd_clause.specs.declared.Atom.{Atom}
+use Rattle.cd_clause.specs.declared.Atom.TheVariants.{Truth, Pred, Equal}
 use Rattle.cd_clause.specs.declared.Clause.{Clause}
 use Rattle.cd_clause.specs.declared.Literal.{Literal}
-use Rattle.cd_steps.specs.declared.Name.{Name}
+use Rattle.cd_clause.specs.Clauses.{atom_changed, literal_changed, literals_changed, clause_terms, terms_of, AreKept, IsTidied}
+use Rattle.cd_names.specs.declared.names.Name.{Name}
 use Rattle.cd_steps.specs.declared.Step.{Step}
-use Rattle.cd_steps.specs.declared.Step.TheVariants.{Input, Resolve}
+use Rattle.cd_steps.specs.declared.Step.TheVariants.{Input, Resolve, Tidy}
+use Rattle.cd_symbols.specs.Symbol.{Symbol}
 use Rattle.cd_read.specs.declared.problem.Problem.{Problem}
 use Rattle.cd_read.specs.declared.problem.Input.{Input as ProblemInput}
 use Rattle.cd_read.specs.Problems.{AtomFormed, ClauseFormed, IsFormed}
 use Rattle.cd_text.specs.declared.line.Line.{Line}
-use Rattle.cd_text.specs.Feeds.{LineFits}
+use Rattle.cd_text.specs.Feeds.{TermsFit, ClauseFits, LineFits}
 use Rattle.cd_ledger.specs.declared.Known.{Known}
 use Rattle.cd_ledger.specs.declared.Local.{Local}
 use Rattle.cd_ledger.specs.declared.Record.{Record}
 use Rattle.cd_ledger.specs.declared.Verdict.{Verdict}
 use Rattle.cd_ledger.specs.declared.Verdict.TheVariants.{Refuted}
+use Rattle.cd_ledger.specs.Lean.{IsUsable}
 use Rattle.cd_ledger.specs.Machine.{is_empty, no_literals}
+use Rattle.cd_ledger.specs.Names.{name_eq, names_in}
 use Rattle.cd_ledger.specs.World.{has_empty}
-use Rattle.cd_laws.specs.Right.{record_of, records_of, AreStepsRight, AreRecordsRight, EndsRight, IsRight}
+use Rattle.cd_ledger.proofs.LeanLemmas.{lean_short}
+use Rattle.cd_ledger.proofs.Lists.{all_append, all_remove, all_get, length_remove}
+use Rattle.cd_ledger.proofs.TidyItems.{kept_all}
+use Rattle.cd_laws.specs.Right.{record_of, records_of, IsNamed, IsStepRight, AreStepsRight, IsRecordRight, AreRecordsRight, EndsRight, IsRight}
 use Rattle.cd_check.specs.Accepted.{IsLineFormed, EndsEmpty, IsRefutation}
-use Rattle.cd_build.specs.Derivation.{is_wanted, choose, up_to_empty, last_names, ancestors, input_role, input_source, lines_of_steps, lines_from, derivation_of}
+use Rattle.cd_build.specs.Derivation.{Traced, entry_of, IsTraced, is_wanted, choose, up_to_empty, last_names, ancestors, input_role, input_source, role_of, source_of, lines_of_steps, lines_from}
 use Rattle.cd_build.specs.Refuting.{IsPrintable, DerivationsRefute}
-use Rattle.cd_build.proofs.Choosing.{same_name, wanted_in, chosen_kept, wanted_more}
-use Rattle.cd_build.proofs.Numbering.{OneStep, one_line, records_one, all_filter, lines_append, lines_right, number_small}
+use Rattle.cd_build.proofs.Choosing.{same_name, wanted_in, chosen_kept, wanted_more, closed, find_named, find_kept, all_cited, right_push}
+use Rattle.cd_build.proofs.Tracing.{AreSteps, StandBefore, given_steps}
+use Rattle.cd_build.proofs.Numbering.{total, AreLinked, lines_right, number_small}
 
--- ---- clauses of records are formed
+-- ---- clauses that can stand in a line
 
-all_get : {A : Type 0} (P : A → Type 0) (xs : List A) (k : ℕ) (x : A) → AllByRecursion P xs → slice_get xs k ≡ Some x → P x
-all_get P [] k x all there = absurd cc
-all_get P (y ∷ ys) zero x all there = let e : y ≡ x = cc in subst P e all.0
-all_get P (y ∷ ys) (suc k) x all there = all_get P ys k x all.1 there
+-- over the problem's symbols, and short
+record IsFit (p : Problem) (c : Clause) : Type 0 where
+  formed : ClauseFormed p.symbols c
+  short : length c.literals ≤ 65535
 
-all_append : {A : Type 0} (P : A → Type 0) (xs ys : List A) → AllByRecursion P xs → AllByRecursion P ys → AllByRecursion P (xs ++ ys)
-all_append P [] ys p q = q
-all_append P (x ∷ xs) ys p q = (p.0, all_append P xs ys p.1 q)
+-- a record's clause is over the problem's symbols, and can be used
+pub record IsSound (p : Problem) (r : Record) : Type 0 where
+  pub formed : ClauseFormed p.symbols r.clause
+  pub usable : IsUsable r.clause
 
-all_remove : {A : Type 0} (P : A → Type 0) (xs : List A) (k : ℕ) → AllByRecursion P xs → AllByRecursion P (remove xs k)
-all_remove P [] zero p = tt
-all_remove P [] (suc k) p = tt
-all_remove P (x ∷ xs) zero p = p.1
-all_remove P (x ∷ xs) (suc k) p = (p.0, all_remove P xs k p.1)
+sound_short : (p : Problem) (r : Record) → IsSound p r → length r.clause.literals ≤ 32768
+sound_short p r sound = lean_short r.clause sound.usable.propositional sound.usable.lean
 
-abbrev RecordFormed : Problem → Record → Type 0
-RecordFormed p r = ClauseFormed p.symbols r.clause
+-- a change of terms leaves a formed clause alone
+fixed_atom : (symbols : List Symbol) (h : Term → Term) (a : Atom) → AtomFormed symbols a → atom_changed h a ≡ a
+fixed_atom symbols h Truth is = absurd is
+fixed_atom symbols h (Pred n args) is = ap (λ (ts : List Term). Pred n (map h ts)) is.4 ∙ ap (Pred n) (sym is.4)
+fixed_atom symbols h (Equal s t) is = absurd is
 
-steps_formed : (p : Problem) (me : ℕ) (before : List Record) (ss : List Step) (c : Clause) → IsFormed p → AllByRecursion (RecordFormed p) before → AreStepsRight p me before ss c → ClauseFormed p.symbols c
-steps_formed p me before [] c inputs all ok = absurd ok
-steps_formed p me before (Input index ∷ []) c inputs all ok =
+fixed : (symbols : List Symbol) (h : Term → Term) (ls : List Literal) → AllByRecursion (λ l. AtomFormed symbols l.atom) ls → literals_changed h ls ≡ ls
+fixed symbols h [] all = refl
+fixed symbols h (l ∷ ls) all =
+    let here : literal_changed h l ≡ l = ap (λ (a : Atom). record { positive = l.positive; atom = a }) (fixed_atom symbols h l.atom all.0) in
+    ap (λ (m : Literal). m ∷ literals_changed h ls) here ∙ ap (λ (ms : List Literal). l ∷ ms) (fixed symbols h ls all.1)
+
+no_terms : (symbols : List Symbol) (ls : List Literal) → AllByRecursion (λ l. AtomFormed symbols l.atom) ls → clause_terms ls ≡ []
+no_terms symbols [] all = refl
+no_terms symbols (l ∷ ls) all = ap (λ (ts : List Term). ts ++ clause_terms ls) (by l.atom all.0) ∙ no_terms symbols ls all.1
+  where
+    by : (a : Atom) → AtomFormed symbols a → terms_of a ≡ []
+    by Truth is = absurd is
+    by (Pred n args) is = is.4
+    by (Equal s t) is = absurd is
+
+kept_few : (earlier ls kept : List Literal) → AreKept earlier ls kept → length kept ≤ length ls
+kept_few earlier [] kept are = omega (arith, ap length are)
+kept_few earlier (l ∷ ls) kept (inl out) = let others = kept_few (earlier ++ l ∷ []) ls kept out.1 in omega arith
+kept_few earlier (l ∷ ls) kept (inr some) =
+    let others = kept_few (earlier ++ l ∷ []) ls some.1.0 some.1.2 in
+    let size : length kept ≡ suc (length some.1.0) = ap length some.1.1 in
+    omega arith
+
+tidied_fit : (p : Problem) (c d : Clause) → IsTidied c d → IsFit p c → IsFit p d
+tidied_fit p c d t fit =
+    let P = λ (l : Literal). AtomFormed p.symbols l.atom in
+    let kept = t.0 in
+    let all : AllByRecursion P kept = kept_all P [] c.literals kept t.1 fit.formed in
+    let same : d.literals ≡ kept = t.2 ∙ fixed p.symbols (substituted (ranked (order_of (clause_terms kept)))) kept all in
+    record { formed = subst (AllByRecursion P) (sym same) all; short = omega (arith, ap length same, kept_few [] c.literals kept t.1, fit.short) }
+
+-- a right step over sound records gives such a clause, behind one
+step_fit : (p : Problem) (me : ℕ) (before : List Record) (current : Option Clause) (s : Step) (c : Clause) → IsFormed p → AllByRecursion (IsSound p) before → ((x : Clause) → current ≡ Some x → IsFit p x)
+    → IsStepRight p me before current s c → IsFit p c
+step_fit p me before current (Input index) c inputs sound fit ok =
     let e : ok.0.clause ≡ c = let h = ok.2 in cc in
-    subst (ClauseFormed p.symbols) e (all_get (λ (i : ProblemInput). ClauseFormed p.symbols i.clause) p.inputs index ok.0 inputs.clauses ok.1)
-steps_formed p me before (Resolve pos i neg j subst_ ∷ []) c inputs all ok =
+    subst (IsFit p) e (record {
+      formed = all_get (λ (i : ProblemInput). ClauseFormed p.symbols i.clause) p.inputs index ok.0 inputs.clauses ok.1;
+      short = all_get (λ (i : ProblemInput). length i.clause.literals ≤ 65535) p.inputs index ok.0 inputs.short ok.1;
+    })
+step_fit p me before current (Resolve pos i neg j terms) c inputs sound fit ok =
     let both = ok.4 in
     let left : both.left ≡ ok.0.clause = let h = both.has_left in cc in
     let right : both.right ≡ ok.1.clause = let h = both.has_right in cc in
     let P = λ (l : Literal). AtomFormed p.symbols l.atom in
-    let formed_left : ClauseFormed p.symbols both.left = subst (ClauseFormed p.symbols) (sym left) (all_get (RecordFormed p) before pos.seq ok.0 all ok.2.there) in
-    let formed_right : ClauseFormed p.symbols both.right = subst (ClauseFormed p.symbols) (sym right) (all_get (RecordFormed p) before neg.seq ok.1 all ok.3.there) in
-    subst (AllByRecursion P) (sym both.resolves.rest)
-    (all_append P (remove both.left.literals i) (remove both.right.literals j) (all_remove P both.left.literals i formed_left) (all_remove P both.right.literals j formed_right))
-steps_formed p me before (s ∷ t ∷ ss) c inputs all ok = absurd ok
+    let a = all_get (IsSound p) before pos.seq ok.0 sound ok.2.there in
+    let b = all_get (IsSound p) before neg.seq ok.1 sound ok.3.there in
+    let formed_left : ClauseFormed p.symbols both.left = subst (ClauseFormed p.symbols) (sym left) a.formed in
+    let formed_right : ClauseFormed p.symbols both.right = subst (ClauseFormed p.symbols) (sym right) b.formed in
+    let first = remove both.left.literals i in
+    let second = remove both.right.literals j in
+    let one = length_remove both.left.literals i (record { positive = true; atom = both.resolves.complementary.atom }) both.resolves.complementary.positive in
+    let other = length_remove both.right.literals j (record { positive = false; atom = both.resolves.complementary.atom }) both.resolves.complementary.negative in
+    let few : length both.left.literals ≤ 32768 = omega (arith, ap (λ (x : Clause). length x.literals) left, sound_short p ok.0 a) in
+    let many : length both.right.literals ≤ 32768 = omega (arith, ap (λ (x : Clause). length x.literals) right, sound_short p ok.1 b) in
+    let size : length c.literals ≡ length (first ++ second) = ap length both.resolves.rest in
+    record {
+      formed = subst (AllByRecursion P) (sym both.resolves.rest) (all_append P first second (all_remove P both.left.literals i formed_left) (all_remove P both.right.literals j formed_right));
+      short = omega (arith, size, length-append first second, one, other, few, many);
+    }
+step_fit p me before None Tidy c inputs sound fit ok = absurd ok
+step_fit p me before (Some x) Tidy c inputs sound fit ok = tidied_fit p x c ok (fit x refl)
 
-pub records_formed : (p : Problem) (me : ℕ) (before rs : List Record) → IsFormed p → AllByRecursion (RecordFormed p) before → AreRecordsRight p me before rs → AllByRecursion (RecordFormed p) rs
-records_formed p me before [] inputs all right = tt
-records_formed p me before (r ∷ rs) inputs all right =
-    let here = steps_formed p me before r.steps r.clause inputs all right.0.steps in
-    (here, records_formed p me (before ++ r ∷ []) rs inputs (all_append (RecordFormed p) before (r ∷ []) all (here, tt)) right.1)
+-- the clause that right steps lead to
+steps_fit : (p : Problem) (me : ℕ) (before : List Record) (current : Option Clause) (ss : List Step) (c : Clause) → IsFormed p → AllByRecursion (IsSound p) before → ((x : Clause) → current ≡ Some x → IsFit p x)
+    → AreStepsRight p me before current ss c → IsFit p c
+steps_fit p me before current [] c inputs sound fit ok = fit c ok
+steps_fit p me before current (s ∷ ss) c inputs sound fit ok =
+    let here = step_fit p me before current s ok.0 inputs sound fit ok.1 in
+    steps_fit p me before (Some ok.0) ss c inputs sound (λ x is. subst (IsFit p) (cc is) here) ok.2
+
+pub records_sound : (p : Problem) (me : ℕ) (before rs : List Record) → IsFormed p → AllByRecursion (IsSound p) before → AllByRecursion (λ r. IsUsable r.clause) rs → AreRecordsRight p me before rs → AllByRecursion (IsSound p) rs
+records_sound p me before [] inputs all usable right = tt
+records_sound p me before (r ∷ rs) inputs all usable right =
+    let fit = steps_fit p me before None r.steps r.clause inputs all (λ x none. absurd cc) right.0.steps in
+    let here : IsSound p r = record { formed = fit.formed; usable = usable.0 } in
+    (here, records_sound p me (before ++ r ∷ []) rs inputs (all_append (IsSound p) before (r ∷ []) all (here, tt)) usable.1 right.1)
 
 -- ---- lines are formed and fit
-
--- a record that stands, by right steps, on some records, with a formed and short clause
-record Good (p : Problem) (me : ℕ) (r : Record) : Type 0 where
-  before : List Record
-  steps : AreStepsRight p me before r.steps r.clause
-  formed : ClauseFormed p.symbols r.clause
-  short : length r.clause.literals ≤ 1
-
-all_good : (p : Problem) (me : ℕ) (before rs : List Record) → AreRecordsRight p me before rs → AllByRecursion (RecordFormed p) rs → AllByRecursion (λ r. length r.clause.literals ≤ 1) rs → AllByRecursion (Good p me) rs
-all_good p me before [] right formed short = tt
-all_good p me before (r ∷ rs) right formed short =
-    (record { before = before; steps = right.0.steps; formed = formed.0; short = short.0 }, all_good p me (before ++ r ∷ []) rs right.1 formed.1 short.1)
 
 abbrev IsGoodLine : Problem → Line → Type 0
 IsGoodLine p l = IsLineFormed p.symbols l × LineFits l
 
-step_line : (p : Problem) (me : ℕ) (before records : List Record) (k : ℕ) (ss : List Step) (c : Clause) → AreStepsRight p me before ss c → ClauseFormed p.symbols c → length c.literals ≤ 1 → k < 2 ^ 32 → length records < 2 ^ 32
-    → AllByRecursion (IsGoodLine p) (lines_of_steps p records k c ss)
-step_line p me before records k [] c ok formed short few small = tt
-step_line p me before records k (Input index ∷ []) c ok formed short few small =
-    subst (λ (o : Option ProblemInput). AllByRecursion (IsGoodLine p) (record { number = k + 1; role = input_role o; clause = c; source = input_source o } ∷ [])) (sym ok.1)
-    ((record { number = omega arith; clause = formed; short = omega arith; source = (ok.0, refl) }, record { number = omega arith; source = tt }), tt)
-step_line p me before records k (Resolve pos i neg j subst_ ∷ []) c ok formed short few small =
+none_there : (ts : List Term) → length ts ≡ 0 → ts ≡ []
+none_there [] none = refl
+none_there (t ∷ ts) none = absurd (omega arith)
+
+clause_fits : (p : Problem) (c : Clause) → IsFit p c → ClauseFits c
+clause_fits p c fit = subst TermsFit (sym (no_terms p.symbols c.literals fit.formed)) tt
+
+step_line : (p : Problem) (me : ℕ) (before records : List Record) (current : Option Clause) (k : ℕ) (s : Step) (c : Clause) → IsStepRight p me before current s c → IsFit p c → k < 2 ^ 34 → total records < 2 ^ 34
+    → IsGoodLine p (record { number = k + 1; role = role_of p s; clause = c; source = source_of p records k s })
+step_line p me before records current k (Input index) c ok fit few small =
+    subst (λ (o : Option ProblemInput). IsGoodLine p (record { number = k + 1; role = input_role o; clause = c; source = input_source o })) (sym ok.1)
+    (record { number = omega arith; clause = fit.formed; short = fit.short; source = (ok.0, refl) }, record { number = omega arith; clause = clause_fits p c fit; source = tt })
+step_line p me before records current k (Resolve pos i neg j terms) c ok fit few small =
     let first = number_small 0 records pos in
     let second = number_small 0 records neg in
     let at_i : i < 65536 = ok.5 in
-    let at_j : j < 65536 = ok.6 in (
-      (
-        record { number = omega arith; clause = formed; short = omega arith; source = (refl, (at_i, at_j), refl) },
-        record { number = omega arith; source = ((omega arith, omega arith), (omega arith, (omega arith, tt))) },
-      ),
-      tt,
+    let at_j : j < 65536 = ok.6 in
+    let none : terms ≡ [] = none_there terms ok.4.resolves.covers in (
+      record { number = omega arith; clause = fit.formed; short = fit.short; source = (refl, (at_i, at_j, none), refl) },
+      record { number = omega arith; clause = clause_fits p c fit; source = ((omega arith, omega arith, subst TermsFit (sym none) tt), (omega arith, (omega arith, tt))) },
     )
-step_line p me before records k (s ∷ t ∷ ss) c ok formed short few small = absurd ok
+step_line p me before records current k Tidy c ok fit few small = (
+  record { number = omega arith; clause = fit.formed; short = fit.short; source = (refl, refl) },
+  record { number = omega arith; clause = clause_fits p c fit; source = (tt, (omega arith, tt)) },
+)
 
-good_lines : (p : Problem) (me : ℕ) (records : List Record) (k : ℕ) (rs : List Record) → AllByRecursion (Good p me) rs → k + length rs < 2 ^ 32 → length records < 2 ^ 32 → AllByRecursion (IsGoodLine p) (lines_from p records k rs)
-good_lines p me records k [] good few small = tt
-good_lines p me records k (r ∷ rs) good few small =
-    let g = good.0 in
-    all_append (IsGoodLine p) (lines_of_steps p records k r.clause r.steps) (lines_from p records (k + 1) rs)
-    (step_line p me g.before records k r.steps r.clause g.steps g.formed g.short (omega arith) small)
-    (good_lines p me records (k + 1) rs good.1 (omega arith) small)
+steps_lines : (p : Problem) (me : ℕ) (before records : List Record) (current : Option Clause) (k : ℕ) (ss : List Step) (cs : List Clause) (c : Clause) → IsFormed p → AllByRecursion (IsSound p) before
+    → ((x : Clause) → current ≡ Some x → IsFit p x) → AreSteps p me before current ss cs c → k + length ss < 2 ^ 34 → total records < 2 ^ 34 → AllByRecursion (IsGoodLine p) (lines_of_steps p records k ss cs)
+steps_lines p me before records current k [] cs c inputs sound fit ok few small = tt
+steps_lines p me before records current k (s ∷ ss) cs c inputs sound fit ok few small =
+    let here = step_fit p me before current s ok.0 inputs sound fit ok.2 in
+    subst (λ (l : List Clause). AllByRecursion (IsGoodLine p) (lines_of_steps p records k (s ∷ ss) l)) (sym ok.4) (
+      step_line p me before records current k s ok.0 ok.2 here (omega arith) small,
+      steps_lines p me before records (Some ok.0) (k + 1) ss ok.1 c inputs sound (λ x is. subst (IsFit p) (cc is) here) ok.3 (omega arith) small,
+    )
+
+good_lines : (p : Problem) (me : ℕ) (records front : List Record) (k : ℕ) (ts : List Traced) → IsFormed p → AreLinked p me (IsSound p) front ts → k + total (map entry_of ts) < 2 ^ 34 → total records < 2 ^ 34
+    → AllByRecursion (IsGoodLine p) (lines_from p records k ts)
+good_lines p me records front k [] inputs linked few small = tt
+good_lines p me records front k (t ∷ ts) inputs linked few small =
+    let here = linked.0 in
+    let next = k + length t.entry.steps in
+    all_append (IsGoodLine p) (lines_of_steps p records k t.entry.steps t.clauses) (lines_from p records next ts)
+    (steps_lines p me here.right.before records None k t.entry.steps t.clauses t.entry.clause inputs here.sound (λ x none. absurd cc) here.right.steps (omega arith) small)
+    (good_lines p me records (front ++ t.entry ∷ []) next ts inputs linked.1 (omega arith) small)
 
 first_halves : {A : Type 0} (P Q : A → Type 0) (xs : List A) → AllByRecursion (λ x. P x × Q x) xs → AllByRecursion P xs
 first_halves P Q [] all = tt
@@ -119,14 +196,6 @@ first_halves P Q (x ∷ xs) all = (all.0.0, first_halves P Q xs all.1)
 second_halves : {A : Type 0} (P Q : A → Type 0) (xs : List A) → AllByRecursion (λ x. P x × Q x) xs → AllByRecursion Q xs
 second_halves P Q [] all = tt
 second_halves P Q (x ∷ xs) all = (all.0.1, second_halves P Q xs all.1)
-
-length_filter : {A : Type 0} (keeps : A → Bool) (xs : List A) → length (filter keeps xs) ≤ length xs
-length_filter keeps [] = omega arith
-length_filter {A} keeps (x ∷ xs) = by (keeps x) (length_filter keeps xs)
-  where
-    by : (b : Bool) → length (filter keeps xs) ≤ length xs → length (cond b (x ∷ filter keeps xs) (filter keeps xs)) ≤ suc (length xs)
-    by true others = omega arith
-    by false others = omega arith
 
 -- ---- the last record
 
@@ -158,6 +227,14 @@ ends_one [] l empty = empty
 ends_one (x ∷ []) l empty = empty
 ends_one (x ∷ y ∷ ls) l empty = ends_one (y ∷ ls) l empty
 
+ends_behind : (xs ys : List Line) → EndsEmpty ys → EndsEmpty (xs ++ ys)
+ends_behind [] ys ends = ends
+ends_behind (x ∷ xs) ys ends = longer x (xs ++ ys) (ends_behind xs ys ends)
+  where
+    longer : (l : Line) (ls : List Line) → EndsEmpty ls → EndsEmpty (l ∷ ls)
+    longer l [] e = absurd e
+    longer l (m ∷ ls) e = e
+
 -- the last record is wanted
 last_wanted : (xs : List Record) (r : Record) (goal : List Name) → goal ≡ r.name ∷ [] → wanted_in goal (xs ++ r ∷ []) r ≡ true
 unfolding wanted_in
@@ -165,11 +242,39 @@ last_wanted xs r goal is =
     let own : is_wanted goal r.name ≡ true = ap (λ (l : List Name). is_wanted l r.name) is ∙ ap (λ (b : Bool). b || false) (same_name r.name) in
     subst (λ (l : List Record). is_wanted (choose goal l).wanted r.name ≡ true) (append-nil (xs ++ r ∷ [])) (wanted_more (xs ++ r ∷ []) [] goal r.name own)
 
-lines_end : (p : Problem) (records fs : List Record) (r : Record) → length r.steps ≡ 1 → r.clause.literals ≡ [] → EndsEmpty (lines_from p records 0 (fs ++ r ∷ []))
-lines_end p records fs r one empty =
-    let l = one_line p records (0 + length fs) r.clause r.steps one in
-    let none : l.line.clause.literals ≡ [] = ap (λ (c : Clause). c.literals) l.clause ∙ empty in
-    subst EndsEmpty (sym (lines_append p records 0 fs (r ∷ []) ∙ ap (λ (h : List Line). lines_from p records 0 fs ++ (h ++ [])) l.is)) (ends_one (lines_from p records 0 fs) l.line none)
+-- behind the lines of right steps that lead to the empty clause
+steps_end : (p : Problem) (me : ℕ) (before records : List Record) (current : Option Clause) (ss : List Step) (cs : List Clause) (c : Clause) (lines : List Line) (k : ℕ) → AreSteps p me before current ss cs c → c.literals ≡ []
+    → (current ≡ Some c → EndsEmpty lines) → EndsEmpty (lines ++ lines_of_steps p records k ss cs)
+steps_end p me before records current [] cs c lines k ok empty ends = subst EndsEmpty (sym (append-nil lines)) (ends ok.1)
+steps_end p me before records current (s ∷ ss) cs c lines k ok empty ends =
+    let d = ok.0 in
+    let line : Line = record { number = k + 1; role = role_of p s; clause = d; source = source_of p records k s } in
+    let others = lines_of_steps p records (k + 1) ss ok.1 in
+    let last : Some d ≡ Some c → EndsEmpty (lines ++ line ∷ []) =
+    λ (is : Some d ≡ Some c). let e : d ≡ c = cc is in ends_one lines line (ap (λ (x : Clause). x.literals) e ∙ empty) in
+    subst (λ (l : List Clause). EndsEmpty (lines ++ lines_of_steps p records k (s ∷ ss) l)) (sym ok.4)
+    (subst EndsEmpty (append_assoc lines (line ∷ []) others) (steps_end p me before records (Some d) ss ok.1 c (lines ++ line ∷ []) (k + 1) ok.3 empty last))
+
+lines_end : (p : Problem) (me : ℕ) (Sound : Record → Type 0) (records front : List Record) (k : ℕ) (ts : List Traced) (fs : List Record) (r : Record) → AreLinked p me Sound front ts → map entry_of ts ≡ fs ++ r ∷ [] → r.clause.literals ≡ []
+    → EndsEmpty (lines_from p records k ts)
+lines_end p me Sound records front k [] [] r linked is empty = absurd cc
+lines_end p me Sound records front k [] (f ∷ fs) r linked is empty = absurd cc
+lines_end p me Sound records front k (t ∷ []) fs r linked is empty =
+    let here = linked.0.right in
+    let own : t.entry ≡ r = alone fs is in
+    let new = lines_of_steps p records k t.entry.steps t.clauses in
+    subst EndsEmpty (sym (append-nil new))
+    (steps_end p me here.before records None t.entry.steps t.clauses t.entry.clause [] k here.steps (ap (λ (x : Record). x.clause.literals) own ∙ empty) (λ none. absurd cc))
+  where
+    alone : (gs : List Record) → t.entry ∷ [] ≡ gs ++ r ∷ [] → t.entry ≡ r
+    alone [] e = cc e
+    alone (g ∷ []) e = absurd (cc e)
+    alone (g ∷ h ∷ gs) e = absurd (cc e)
+lines_end p me Sound records front k (t ∷ u ∷ ts) [] r linked is empty = absurd cc
+lines_end p me Sound records front k (t ∷ u ∷ ts) (f ∷ fs) r linked is empty =
+    let more : map entry_of (u ∷ ts) ≡ fs ++ r ∷ [] = cc in
+    let next = k + length t.entry.steps in
+    ends_behind (lines_of_steps p records k t.entry.steps t.clauses) (lines_from p records next (u ∷ ts)) (lines_end p me Sound records (front ++ t.entry ∷ []) next (u ∷ ts) fs r linked.1 more empty)
 
 -- ---- the whole
 
@@ -204,35 +309,100 @@ length_records : (known : List Known) → length (map record_of known) ≡ lengt
 length_records [] = refl
 length_records (k ∷ ks) = ap suc (length_records ks)
 
-split_one : {A : Type 0} (P : A → Type 0) (xs : List A) (x : A) → AllByRecursion P (xs ++ x ∷ []) → P x
-split_one P [] x all = all.0
-split_one P (y ∷ xs) x all = split_one P xs x all.1
+-- ---- the derivation's records are linked
+
+-- what a kept record's steps name of earlier records is kept of these
+named_kept : (p : Problem) (me : ℕ) (goal : List Name) (all before rest : List Record) (r : Record) → all ≡ before ++ r ∷ rest → AreRecordsRight p me [] before → IsRecordRight p me before r → wanted_in goal all r ≡ true
+    → AllByRecursion (λ n. (a : Record) → IsNamed me before n a → find (λ x. name_eq x.name n) (filter (wanted_in goal all) before) ≡ Some a) (flat_map names_in r.steps)
+unfolding wanted_in
+named_kept p me goal all before rest r is right here kept =
+    all_cited (λ n. (a : Record) → IsNamed me before n a → find (λ x. name_eq x.name n) (filter (wanted_in goal all) before) ≡ Some a) r.steps (λ n cited a named.
+    let zero_plus : n.seq ≡ 0 + n.seq = omega arith in
+    let found = find_named p me [] before n n.seq a right named.peer zero_plus named.there in
+    let wanted : is_wanted (choose goal all).wanted n ≡ true =
+    closed p me goal all before rest r n is right here kept (subst (λ (ns : List Name). is_wanted ns n ≡ true) (sym here.cites) cited) in
+    let a_kept : wanted_in goal all a ≡ true = ap (λ (m : Name). is_wanted (choose goal all).wanted m) found.1 ∙ wanted in
+    find_kept (λ x. name_eq x.name n) (wanted_in goal all) before a found.0 a_kept)
+
+linked_by : (b : Bool) (p : Problem) (me : ℕ) (known : List Known) (goal : List Name) (all before rest : List Record) (r : Record) (ts : List Traced) → wanted_in goal all r ≡ b → map record_of known ≡ all → all ≡ before ++ r ∷ rest
+    → AreRecordsRight p me [] before → IsRecordRight p me before r → AllByRecursion (IsSound p) before → map entry_of ts ≡ cond b (r ∷ filter (wanted_in goal all) rest) (filter (wanted_in goal all) rest) → AllByRecursion (IsTraced p known) ts
+    → ((us : List Traced) → map entry_of us ≡ filter (wanted_in goal all) rest → AllByRecursion (IsTraced p known) us → AreLinked p me (IsSound p) (filter (wanted_in goal all) (before ++ r ∷ [])) us)
+    → AreLinked p me (IsSound p) (filter (wanted_in goal all) before) ts
+linked_by true p me known goal all before rest r [] holds whole is right here sound entries given others = absurd cc
+linked_by true p me known goal all before rest r (t ∷ ts) holds whole is right here sound entries given others =
+    let keeps = wanted_in goal all in
+    let own : t.entry ≡ r = cc in
+    let more : map entry_of ts ≡ filter keeps rest = cc in
+    let stand : StandBefore p me known before = record { rest = r ∷ rest; split = whole ∙ is; right = right } in
+    let steps : AreStepsRight p me before None t.entry.steps t.entry.clause = subst (λ (x : Record). AreStepsRight p me before None x.steps x.clause) (sym own) here.steps in
+    let named = subst (λ (x : Record). AllByRecursion (λ n. (a : Record) → IsNamed me before n a → find (λ y. name_eq y.name n) (filter keeps before) ≡ Some a) (flat_map names_in x.steps)) (sym own)
+    (named_kept p me goal all before rest r is right here holds) in
+    let grown : filter keeps (before ++ r ∷ []) ≡ filter keeps before ++ t.entry ∷ [] =
+    filter-append keeps before (r ∷ []) ∙ ap (λ (b : Bool). filter keeps before ++ cond b (r ∷ []) []) holds ∙ ap (λ (x : Record). filter keeps before ++ x ∷ []) (sym own) in (
+      record {
+        right = record { before = before; steps = given_steps p me known before None t.entry.steps t.clauses t.entry.clause stand steps given.0 };
+        sound = sound;
+        named = named;
+      },
+      subst (λ (l : List Record). AreLinked p me (IsSound p) l ts) grown (others ts more given.1),
+    )
+linked_by false p me known goal all before rest r ts holds whole is right here sound entries given others =
+    let keeps = wanted_in goal all in
+    let same : filter keeps (before ++ r ∷ []) ≡ filter keeps before =
+    filter-append keeps before (r ∷ []) ∙ ap (λ (b : Bool). filter keeps before ++ cond b (r ∷ []) []) holds ∙ append-nil (filter keeps before) in
+    subst (λ (l : List Record). AreLinked p me (IsSound p) l ts) same (others ts entries given)
+
+linked : (p : Problem) (me : ℕ) (known : List Known) (goal : List Name) (all before rest : List Record) (ts : List Traced) → map record_of known ≡ all → all ≡ before ++ rest → AreRecordsRight p me [] before → AreRecordsRight p me before rest
+    → AllByRecursion (IsSound p) before → AllByRecursion (IsSound p) rest → map entry_of ts ≡ filter (wanted_in goal all) rest → AllByRecursion (IsTraced p known) ts → AreLinked p me (IsSound p) (filter (wanted_in goal all) before) ts
+linked p me known goal all before [] [] whole is right right_rest sound sound_rest entries given = tt
+linked p me known goal all before [] (t ∷ ts) whole is right right_rest sound sound_rest entries given = absurd cc
+linked p me known goal all before (r ∷ rest) ts whole is right right_rest sound sound_rest entries given =
+    let more : all ≡ (before ++ r ∷ []) ++ rest = is ∙ sym (append_assoc before (r ∷ []) rest) in
+    linked_by (wanted_in goal all r) p me known goal all before rest r ts refl whole is right right_rest.0 sound entries given
+    (λ us same traced. linked p me known goal all (before ++ r ∷ []) rest us whole more (right_push p me [] before r right right_rest.0) right_rest.1 (all_append (IsSound p) before (r ∷ []) sound (sound_rest.0, tt)) sound_rest.1 same traced)
+
+-- ---- few steps
+
+few_total : (rs : List Record) → AllByRecursion (λ r. length r.steps ≤ 2) rs → total rs ≤ 2 * length rs
+few_total [] few = omega arith
+few_total (r ∷ rs) few = let here : length r.steps ≤ 2 = few.0 in omega (arith, few_total rs few.1)
+
+total_filter : (keeps : Record → Bool) (xs : List Record) → total (filter keeps xs) ≤ total xs
+total_filter keeps [] = omega arith
+total_filter keeps (x ∷ xs) = by (keeps x) (total_filter keeps xs)
+  where
+    by : (b : Bool) → total (filter keeps xs) ≤ total xs → total (cond b (x ∷ filter keeps xs) (filter keeps xs)) ≤ length x.steps + total xs
+    by true others = omega arith
+    by false others = omega arith
+
+all_entries : (P : Record → Type 0) (ks : List Known) → AllByRecursion (λ k. P k.entry) ks → AllByRecursion P (map record_of ks)
+all_entries P [] all = tt
+all_entries P (k ∷ ks) all = (all.0, all_entries P ks all.1)
 
 pub derivations_refute : DerivationsRefute
-unfolding derivation_of
-derivations_refute p s h =
+derivations_refute p s lines h is =
     let all = records_of s in
     let goal = last_names all in
     let keeps = wanted_in goal all in
     let kept = filter keeps all in
+    let ts = is.traced in
     let right = h.right.known in
     let w = whole p s.me s.known right (ends_right p s h.right h.verdict) in
+    let entries : map entry_of ts ≡ kept = is.chosen ∙ w.chosen in
+    let sound = records_sound p s.me [] all h.inputs tt (all_entries (λ r. IsUsable r.clause) s.known h.right.usable) right in
+    let link = linked p s.me s.known goal all [] all ts refl refl tt right tt sound entries is.given in
     let few : length all < 2 ^ 32 = omega (arith, length_records s.known, h.right.counted, h.few) in
-    let small : length kept < 2 ^ 32 = omega (arith, length_filter keeps all) in
-    let formed = records_formed p s.me [] all h.inputs tt right in
-    let good = all_filter (Good p s.me) keeps all (all_good p s.me [] all right formed h.right.known_units) in
-    let lines = good_lines p s.me kept 0 kept good (omega arith) small in
-    let one = split_one OneStep w.front w.last (subst (AllByRecursion OneStep) w.split (records_one p s.me [] all right)) in
+    let small : total kept < 2 ^ 34 = omega (arith, total_filter keeps all, few_total all (all_entries (λ r. length r.steps ≤ 2) s.known h.right.few_steps)) in
+    let count : total (map entry_of ts) ≡ total kept = ap total entries in
+    let good = good_lines p s.me kept [] 0 ts h.inputs link (omega arith) small in
     let last_kept : keeps w.last ≡ true = ap (λ (l : List Record). wanted_in goal l w.last) w.split ∙ last_wanted w.front w.last goal w.goal in
     let ends_in : kept ≡ filter keeps w.front ++ w.last ∷ [] =
     ap (filter keeps) w.split ∙ filter-append keeps w.front (w.last ∷ []) ∙ ap (λ (b : Bool). filter keeps w.front ++ cond b (w.last ∷ []) []) last_kept in
-    let refutes : IsRefutation p (lines_from p kept 0 kept) = record {
-      formed = first_halves (IsLineFormed p.symbols) LineFits (lines_from p kept 0 kept) lines;
-      right = lines_right p s.me goal all [] all refl tt right;
-      end = subst (λ (l : List Record). EndsEmpty (lines_from p kept 0 l)) (sym ends_in) (lines_end p kept (filter keeps w.front) w.last one w.empty);
+    let lines_are : lines ≡ lines_from p kept 0 ts = is.lines_are ∙ ap (λ (l : List Record). lines_from p l 0 ts) w.chosen in
+    let refutes : IsRefutation p (lines_from p kept 0 ts) = record {
+      formed = first_halves (IsLineFormed p.symbols) LineFits (lines_from p kept 0 ts) good;
+      right = lines_right p s.me (IsSound p) kept [] ts (sym entries) tt link;
+      end = lines_end p s.me (IsSound p) kept [] 0 ts (filter keeps w.front) w.last link (entries ∙ ends_in) w.empty;
     } in
-    let whole_is : IsPrintable p s = record {
-      refutes = subst (λ (l : List Record). IsRefutation p (lines_from p l 0 l)) (sym w.chosen) refutes;
-      fit = subst (λ (l : List Record). AllByRecursion LineFits (lines_from p l 0 l)) (sym w.chosen) (second_halves (IsLineFormed p.symbols) LineFits (lines_from p kept 0 kept) lines);
-    } in
-    whole_is
+    let printable : IsPrintable p (lines_from p kept 0 ts) = record { refutes = refutes; fit = second_halves (IsLineFormed p.symbols) LineFits (lines_from p kept 0 ts) good } in
+    subst (IsPrintable p) (sym lines_are) printable

@@ -1,10 +1,10 @@
 -- The derivation of a peer that recorded the empty clause: the records that it stands on, as numbered lines.
-use Rattle.std.specs.Prelude.{ℕ, ◌+◌, Bool, if◌then◌else◌, List, [], ◌∷◌, ◌++◌, Option, None, Some, slice_get}
-use Rattle.std.specs.List.{list_any}
+use Rattle.std.specs.Prelude.{ℕ, ◌+◌, ◌≡◌, Bool, if◌then◌else◌, List, [], ◌∷◌, ◌++◌, length, map, Option, None, Some, slice_get}
+use Rattle.std.specs.List.{list_any, AllByRecursion}
 use Rattle.cd_clause.specs.declared.Clause.{Clause}
-use Rattle.cd_steps.specs.declared.Name.{Name}
+use Rattle.cd_names.specs.declared.names.Name.{Name}
 use Rattle.cd_steps.specs.declared.Step.{Step}
-use Rattle.cd_steps.specs.declared.Step.TheVariants.{Input, Resolve}
+use Rattle.cd_steps.specs.declared.Step.TheVariants.{Input, Resolve, Tidy}
 use Rattle.cd_read.specs.declared.problem.Problem.{Problem}
 use Rattle.cd_read.specs.declared.problem.Input.{Input as ProblemInput}
 use Rattle.cd_read.specs.declared.problem.Label.TheVariants.{Word}
@@ -18,6 +18,7 @@ use Rattle.cd_ledger.specs.declared.Local.{Local}
 use Rattle.cd_ledger.specs.declared.Record.{Record}
 use Rattle.cd_ledger.specs.Names.{name_eq}
 use Rattle.cd_ledger.specs.Machine.{is_empty}
+use Rattle.cd_laws.specs.Accounts.{IsReplayed}
 
 -- ---- which records
 
@@ -52,12 +53,32 @@ last_names (r ∷ q ∷ rs) = last_names (q ∷ rs)
 abbrev pub ancestors : List Known → List Record
 ancestors known = (choose (last_names (up_to_empty known)) (up_to_empty known)).records
 
+-- ---- what their steps give
+
+-- the clauses are those that the steps give one after another, behind the clause before them
+abbrev pub AreGiven : Problem → List Known → Option Clause → List Step → List Clause → Type 0
+AreGiven p known current [] cs = cs ≡ []
+AreGiven p known current (s ∷ ss) cs =
+    (c : Clause) × (others : List Clause) × IsReplayed p known current s c × AreGiven p known (Some c) ss others × (cs ≡ c ∷ others)
+
+-- a record, and a clause for each of its steps
+pub record Traced : Type 0 where
+  pub entry : Record
+  pub clauses : List Clause
+
+abbrev pub entry_of : Traced → Record
+entry_of t = t.entry
+
+-- the clauses are those that the record's steps give
+abbrev pub IsTraced : Problem → List Known → Traced → Type 0
+IsTraced p known t = AreGiven p known None t.entry.steps t.clauses
+
 -- ---- their lines
 
--- the number of the line of a name, among records whose lines have the numbers behind k
+-- the number of the last line of a name, among records whose lines have the numbers behind k: each step has a line
 abbrev pub number_of : ℕ → List Record → Name → ℕ
 number_of k [] n = 0
-number_of k (r ∷ rs) n = if name_eq r.name n then k + 1 else number_of (k + 1) rs n
+number_of k (r ∷ rs) n = if name_eq r.name n then k + length r.steps else number_of (k + length r.steps) rs n
 
 abbrev pub input_role : Option ProblemInput → LineRole
 input_role (Some i) = Given i.role
@@ -67,24 +88,32 @@ abbrev pub input_source : Option ProblemInput → LineSource
 input_source (Some i) = File i.file i.label
 input_source None = File [] (Word [])
 
--- a step's role and source; its premises are the lines of these records
+-- a step's role and source behind line k: its premises are the last lines of these records, or the line before
 abbrev pub role_of : Problem → Step → LineRole
 role_of p (Input index) = input_role (slice_get p.inputs index)
 role_of p (Resolve pos i neg j subst) = Plain
+role_of p Tidy = Plain
 
-abbrev pub source_of : Problem → List Record → Step → LineSource
-source_of p records (Input index) = input_source (slice_get p.inputs index)
-source_of p records (Resolve pos i neg j subst) = Inference (Resolve pos i neg j subst) (number_of 0 records pos ∷ number_of 0 records neg ∷ [])
+abbrev pub source_of : Problem → List Record → ℕ → Step → LineSource
+source_of p records k (Input index) = input_source (slice_get p.inputs index)
+source_of p records k (Resolve pos i neg j subst) = Inference (Resolve pos i neg j subst) (number_of 0 records pos ∷ number_of 0 records neg ∷ [])
+source_of p records k Tidy = Inference Tidy (k ∷ [])
 
--- so far each record has one step, and one line
-abbrev pub lines_of_steps : Problem → List Record → ℕ → Clause → List Step → List Line
-lines_of_steps p records k clause [] = []
-lines_of_steps p records k clause (s ∷ ss) = record { number = k + 1; role = role_of p s; clause = clause; source = source_of p records s } ∷ []
+-- a line for each step and its clause, with the numbers behind k
+abbrev pub lines_of_steps : Problem → List Record → ℕ → List Step → List Clause → List Line
+lines_of_steps p records k [] cs = []
+lines_of_steps p records k (s ∷ ss) [] = []
+lines_of_steps p records k (s ∷ ss) (c ∷ cs) =
+    record { number = k + 1; role = role_of p s; clause = c; source = source_of p records k s } ∷ lines_of_steps p records (k + 1) ss cs
 
 -- the lines of records, with the numbers behind k
-abbrev pub lines_from : Problem → List Record → ℕ → List Record → List Line
+abbrev pub lines_from : Problem → List Record → ℕ → List Traced → List Line
 lines_from p records k [] = []
-lines_from p records k (r ∷ rs) = lines_of_steps p records k r.clause r.steps ++ lines_from p records (k + 1) rs
+lines_from p records k (t ∷ ts) = lines_of_steps p records k t.entry.steps t.clauses ++ lines_from p records (k + length t.entry.steps) ts
 
-unfoldable pub derivation_of : Problem → Local → List Line
-derivation_of p s = lines_from p (ancestors s.known) 0 (ancestors s.known)
+-- these are the lines of the derivation: of the first empty record and its ancestors, each with the clauses that its steps give
+pub record IsDerivation (p : Problem) (s : Local) (lines : List Line) : Type 0 where
+  pub traced : List Traced
+  pub chosen : map entry_of traced ≡ ancestors s.known
+  pub given : AllByRecursion (IsTraced p s.known) traced
+  pub lines_are : lines ≡ lines_from p (ancestors s.known) 0 traced

@@ -1,11 +1,13 @@
 -- Marks of wanted records by their places, and lines by the numbers of earlier ones.
-use Rattle.std.specs.Prelude.{◌≡◌, ℕ, ◌+◌, ◌<◌, Bool, true, List, [], ◌∷◌, length, map, slice_get, slice_set, slice_index, unwrap_or, Some, false}
+use Rattle.std.specs.Prelude.{◌≡◌, ℕ, ◌+◌, ◌-◌, ◌<◌, Bool, true, List, [], ◌∷◌, length, map, slice_get, slice_set, slice_index, unwrap_or, ◌++◌, Option, None, Some, false}
 use Rattle.std.specs.List.{AllByRecursion}
 use Rattle.cd_clause.specs.declared.Clause.{Clause}
-use Rattle.cd_steps.specs.declared.Name.{Name}
+use Rattle.cd_names.specs.declared.names.Name.{Name}
 use Rattle.cd_steps.specs.declared.Step.{Step}
-use Rattle.cd_steps.specs.declared.Step.TheVariants.{Input, Resolve}
+use Rattle.cd_steps.specs.declared.Step.TheVariants.{Input, Resolve, Tidy}
+use Rattle.cd_steps.specs.Steps.{StepOk}
 use Rattle.cd_read.specs.declared.problem.Problem.{Problem}
+use Rattle.cd_read.specs.declared.problem.Input.{Input as ProblemInput}
 use Rattle.cd_text.specs.declared.line.Line.{Line}
 use Rattle.cd_text.specs.declared.line.LineSource.{LineSource}
 use Rattle.cd_text.specs.declared.line.LineSource.TheVariants.{Inference}
@@ -45,15 +47,71 @@ abbrev pub marked : List Bool → List Name → List Bool
 marked marks [] = marks
 marked marks (n ∷ ns) = marked (slice_set marks n.seq true) ns
 
--- a line whose parents have the numbers at their places
-abbrev pub source_by : Problem → List ℕ → Step → LineSource
-source_by p numbers (Input index) = input_source (slice_get p.inputs index)
-source_by p numbers (Resolve pos i neg j subst) = Inference (Resolve pos i neg j subst) (slice_index numbers pos.seq ∷ slice_index numbers neg.seq ∷ [])
+-- ---- what a step gives, and its line
+
+-- the clause of the record in this place
+abbrev pub clause_of : Option Known → Option Clause
+clause_of None = None
+clause_of (Some k) = Some k.entry.clause
+
+abbrev pub input_clause : Option ProblemInput → Option Clause
+input_clause None = None
+input_clause (Some i) = Some i.clause
+
+-- the premises of a step, beside the clause before it: the clauses in the places that it names, or its input's
+abbrev pub first_premise : Problem → List Known → Step → Option Clause
+first_premise p known (Input index) = input_clause (slice_get p.inputs index)
+first_premise p known (Resolve pos i neg j subst) = clause_of (slice_get known pos.seq)
+first_premise p known Tidy = None
+
+abbrev pub second_premise : List Known → Step → Option Clause
+second_premise known (Input index) = None
+second_premise known (Resolve pos i neg j subst) = clause_of (slice_get known neg.seq)
+second_premise known Tidy = None
+
+-- the step gives the clause, behind the clause before it
+abbrev pub Gives : Problem → List Known → Option Clause → Step → Clause → Type 0
+Gives p known current s c = StepOk s current (first_premise p known s) (second_premise known s) c
+
+-- each step gives a clause, behind the clause before it
+abbrev pub EachGives : Problem → List Known → Option Clause → List Step → Type 0
+EachGives p known current [] = Unit {0}
+EachGives p known current (s ∷ ss) = (c : Clause) × Gives p known current s c × EachGives p known (Some c) ss
+
+-- the source of a line behind line k: its parents have the numbers at their places, or it stands on line k
+abbrev pub source_by : Problem → List ℕ → ℕ → Step → LineSource
+source_by p numbers k (Input index) = input_source (slice_get p.inputs index)
+source_by p numbers k (Resolve pos i neg j subst) = Inference (Resolve pos i neg j subst) (slice_index numbers pos.seq ∷ slice_index numbers neg.seq ∷ [])
+source_by p numbers k Tidy = Inference Tidy (k ∷ [])
 
 abbrev pub line_by : Problem → List ℕ → ℕ → Clause → Step → Line
-line_by p numbers number clause step = record { number = number; role = role_of p step; clause = clause; source = source_by p numbers step }
+line_by p numbers k clause step = record { number = k + 1; role = role_of p step; clause = clause; source = source_by p numbers k step }
 
--- the line of a record's one step
-abbrev pub lines_by : Problem → List ℕ → ℕ → Clause → List Step → List Line
-lines_by p numbers number clause [] = []
-lines_by p numbers number clause (s ∷ ss) = line_by p numbers number clause s ∷ []
+abbrev pub line_clause : Option Line → Option Clause
+line_clause None = None
+line_clause (Some l) = Some l.clause
+
+-- the clause of the last line
+abbrev pub last_clause : List Line → Option Clause
+last_clause lines = line_clause (slice_get lines (length lines - 1))
+
+-- the clause before a step: none before a record's first one, else that of the last line
+abbrev pub clause_before : Bool → List Line → Option Clause
+clause_before true lines = None
+clause_before false lines = last_clause lines
+
+-- a step's line joins the lines, with the clause that the step gives
+abbrev pub IsAdded : Problem → List Known → List ℕ → Option Clause → Step → List Line → List Line → Type 0
+IsAdded p known numbers current s before after =
+    (c : Clause) × Gives p known current s c × (after ≡ before ++ line_by p numbers (length before) c s ∷ [])
+
+-- the lines of a record's steps join the lines
+abbrev pub AreAdded : Problem → List Known → List ℕ → Option Clause → List Step → List Line → List Line → Type 0
+AreAdded p known numbers current [] before after = after ≡ before
+AreAdded p known numbers current (s ∷ ss) before after =
+    (c : Clause) × Gives p known current s c × AreAdded p known numbers (Some c) ss (before ++ line_by p numbers (length before) c s ∷ []) after
+
+-- the lines of a record join the lines if it is marked
+abbrev pub AreAddedIf : Bool → Problem → List Known → List ℕ → List Step → List Line → List Line → Type 0
+AreAddedIf true p known numbers ss before after = AreAdded p known numbers None ss before after
+AreAddedIf false p known numbers ss before after = after ≡ before

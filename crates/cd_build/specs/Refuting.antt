@@ -1,14 +1,15 @@
 -- That the lines of a peer that recorded the empty clause are a refutation.
-use Rattle.std.specs.Prelude.{◌≡◌, ◌^◌, ◌<◌, Some}
+use Rattle.std.specs.Prelude.{◌≡◌, ◌^◌, ◌<◌, List, Some}
 use Rattle.std.specs.List.{AllByRecursion}
 use Rattle.cd_read.specs.declared.problem.Problem.{Problem}
 use Rattle.cd_read.specs.Problems.{IsFormed}
+use Rattle.cd_text.specs.declared.line.Line.{Line}
 use Rattle.cd_text.specs.Feeds.{LineFits}
 use Rattle.cd_check.specs.Accepted.{IsRefutation}
 use Rattle.cd_ledger.specs.declared.Local.{Local}
 use Rattle.cd_ledger.specs.declared.Verdict.TheVariants.{Refuted}
 use Rattle.cd_laws.specs.Right.{IsRight}
-use Rattle.cd_build.specs.Derivation.{derivation_of}
+use Rattle.cd_build.specs.Derivation.{IsDerivation}
 
 -- a right state of a formed problem that recorded the empty clause, with fewer than 2^32 records
 pub record IsRefuted (p : Problem) (s : Local) : Type 0 where
@@ -18,9 +19,9 @@ pub record IsRefuted (p : Problem) (s : Local) : Type 0 where
   pub few : s.next_seq < 2 ^ 32
 
 -- the lines are a refutation, and fit in print
-pub record IsPrintable (p : Problem) (s : Local) : Type 0 where
-  pub refutes : IsRefutation p (derivation_of p s)
-  pub fit : AllByRecursion LineFits (derivation_of p s)
+pub record IsPrintable (p : Problem) (lines : List Line) : Type 0 where
+  pub refutes : IsRefutation p lines
+  pub fit : AllByRecursion LineFits lines
 
 abbrev pub DerivationsRefute : Type 0
-DerivationsRefute = (p : Problem) (s : Local) → IsRefuted p s → IsPrintable p s
+DerivationsRefute = (p : Problem) (s : Local) (lines : List Line) → IsRefuted p s → IsDerivation p s lines → IsPrintable p lines

@@ -4,7 +4,7 @@ ghost use Rattle.cd_build.specs.Marks.{AreMarks, ArePlaced, all_wanted, is_marke
 
 use cd_ledger::{Known, Record};
 use cd_list::Sequence;
-use cd_steps::Name;
+use cd_names::Name;
 use std::alloc::{AllocError, Global};
 
 /// A mark for each place of a record: whether the last record stands on the one there, or is it.

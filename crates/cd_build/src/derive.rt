@@ -1,102 +1,177 @@
 //! The lines of a derivation.
-ghost use Rattle.std.specs.Prelude.{◌≡◌, ◌+◌, ◌<◌, ◌^◌, ◌++◌, [], if◌then◌else◌, IfOk, OnOk, Some, slice_get, slice_index};
+ghost use Rattle.std.specs.Prelude.{◌≡◌, ◌+◌, ◌<◌, ◌^◌, length, IfOk, OnOk, Some, slice_get, slice_index};
 ghost use Rattle.std.specs.Option.{option_copied};
+ghost use Rattle.cd_clause.specs.declared.Clause.{Clause};
 ghost use Rattle.cd_ledger.specs.declared.Verdict.{Verdict};
 ghost use Rattle.cd_laws.specs.Right.{IsRight};
-ghost use Rattle.cd_build.specs.Derivation.{derivation_of, input_role, input_source, role_of};
-ghost use Rattle.cd_build.specs.Marks.{line_by, lines_by, source_by};
+ghost use Rattle.cd_build.specs.Derivation.{IsDerivation, input_role, input_source, role_of};
+ghost use Rattle.cd_build.specs.Marks.{AreAdded, AreAddedIf, EachGives, Gives, IsAdded, clause_before, clause_of, first_premise, last_clause, line_by, second_premise, source_by};
 
 use crate::chosen::{is_marked, marks_of};
 use cd_clause::Clause;
-use cd_ledger::{Known, Local, Record};
+use cd_ledger::{Known, Local};
 use cd_list::{Copied, Sequence, Text};
+use cd_names::Name;
 use cd_read::{Input, Label, Problem};
-use cd_steps::Step;
+use cd_steps::{Step, step_gives};
 use cd_text::{Line, LineRole, LineSource, Lines};
 use std::alloc::{AllocError, Global};
 
 /// The lines of the empty record and of the records that it stands on, in the order in which they became
-/// known, numbered from 1. The time is linear in the numbers of records and cites.
+/// known, a line for each step, numbered from 1. Each step's clause is computed anew. The time is linear in
+/// the number of all records and in the sizes of what each step takes and gives; only a step that tidies
+/// compares each two literals of its clause.
 pub fn derivation(alloc: Global, problem: &Problem, local: &Local) -> Result<Lines, AllocError>
     requires right { IsRight problem.now local.now }
     requires refuted { local.now.verdict ≡ Some Verdict.Refuted }
-    ensures { IfOk result (λ lines. lines ≡ derivation_of problem.now local.now) }
+    ensures { IfOk result (IsDerivation problem.now local.now) }
 {
     let known = local.known.as_slice();
     let marks = marks_of(alloc, local.me, known)?;
     let mut numbers = Sequence::new(alloc);
     let mut lines = Sequence::new(alloc);
-    let mut number = 0u64;
     for i in 0..known.len() {
-        numbers.push(number + 1)?;
         let marked = is_marked(&marks, i);
-        let entry = &known[i].entry;
-        number = add_marked(
+        add_marked(
             alloc,
             problem,
-            marked,
+            known,
             numbers.as_slice(),
-            number,
-            entry,
+            marked,
+            known[i].entry.steps.as_slice(),
             &mut lines,
         )?;
+        numbers.push(lines.len() as u64)?;
     }
     Ok(lines)
 }
 
-// Adds the line of a record that is marked, with the next number, and gives the number of the last line.
+// Adds the lines of a record that is marked.
 fn add_marked(
     alloc: Global,
     problem: &Problem,
-    marked: bool,
+    known: &[Known],
     numbers: &[u64],
-    number: u64,
-    entry: &Record,
+    marked: bool,
+    steps: &[Step],
     lines: &mut Lines,
-) -> Result<u64, AllocError>
-    requires room { number + 1 < 2 ^ 64 }
-    ensures number { IfOk result (λ n. n ≡ (if marked then number + 1 else number)) }
-    ensures lines { OnOk result (lines.new ≡ lines.old ++ (if marked
-        then lines_by problem.now numbers.now (number + 1) entry.now.clause entry.now.steps else [])) }
+) -> Result<(), AllocError>
+    requires { EachGives problem.now known.now None steps.now }
+    ensures { OnOk result (AreAddedIf marked problem.now known.now numbers.now steps.now lines.old lines.new) }
 {
     if !marked {
-        return Ok(number);
+        return Ok(());
     }
-    add_lines(alloc, problem, numbers, number + 1, entry, lines)?;
-    Ok(number + 1)
+    add_lines(alloc, problem, known, numbers, steps, lines)
 }
 
 fn add_lines(
     alloc: Global,
     problem: &Problem,
+    known: &[Known],
     numbers: &[u64],
-    number: u64,
-    entry: &Record,
+    steps: &[Step],
     lines: &mut Lines,
 ) -> Result<(), AllocError>
-    ensures { OnOk result (lines.new ≡ lines.old ++ lines_by problem.now numbers.now number entry.now.clause entry.now.steps) }
+    requires { EachGives problem.now known.now None steps.now }
+    ensures { OnOk result (AreAdded problem.now known.now numbers.now None steps.now lines.old lines.new) }
 {
-    match entry.steps.as_slice() {
-        [] => Ok(()),
-        [step, ..] => lines.push(line_of(alloc, problem, numbers, number, &entry.clause, step)?),
+    let mut first = true;
+    for step in steps {
+        add_line(alloc, problem, known, numbers, first, step, lines)?;
+        first = false;
+    }
+    Ok(())
+}
+
+// Adds the line of a step, with the clause that it gives behind the clause before it.
+fn add_line(
+    alloc: Global,
+    problem: &Problem,
+    known: &[Known],
+    numbers: &[u64],
+    first: bool,
+    step: &Step,
+    lines: &mut Lines,
+) -> Result<(), AllocError>
+    requires { (c : Clause) × Gives problem.now known.now (clause_before first lines.old) step.now c }
+    ensures { OnOk result (IsAdded problem.now known.now numbers.now (clause_before first lines.old) step.now lines.old lines.new) }
+{
+    let given = step_gives(
+        alloc,
+        step,
+        clause_before(first, lines),
+        first_premise(problem, known, step),
+        second_premise(known, step),
+    )?;
+    let before = lines.len() as u64;
+    match given {
+        Some(clause) => lines.push(line_of(alloc, problem, numbers, before, clause, step)?),
+        None => unreachable!(),
     }
 }
 
+fn clause_before(first: bool, lines: &Lines) -> Option<&Clause>
+    ensures { option_copied result ≡ clause_before first lines.now }
+{
+    if first {
+        return None;
+    }
+    match lines.last() {
+        Some(line) => Some(&line.clause),
+        None => None,
+    }
+}
+
+fn first_premise<'a>(problem: &'a Problem, known: &'a [Known], step: &Step) -> Option<&'a Clause>
+    ensures { option_copied result ≡ first_premise problem.now known.now step.now }
+{
+    match step {
+        Step::Input { index } => match problem.inputs.get(*index as usize) {
+            Some(input) => Some(&input.clause),
+            None => None,
+        },
+        Step::Resolve { pos, .. } => clause_at(known, pos),
+        Step::Tidy => None,
+    }
+}
+
+fn second_premise<'a>(known: &'a [Known], step: &Step) -> Option<&'a Clause>
+    ensures { option_copied result ≡ second_premise known.now step.now }
+{
+    match step {
+        Step::Input { .. } => None,
+        Step::Resolve { neg, .. } => clause_at(known, neg),
+        Step::Tidy => None,
+    }
+}
+
+// The clause of the record in the place of this name.
+fn clause_at<'a>(known: &'a [Known], name: &Name) -> Option<&'a Clause>
+    ensures { option_copied result ≡ clause_of (slice_get known.now name.now.seq) }
+{
+    match known.get(name.seq as usize) {
+        Some(known) => Some(&known.entry.clause),
+        None => None,
+    }
+}
+
+// The line behind line `before`.
 fn line_of(
     alloc: Global,
     problem: &Problem,
     numbers: &[u64],
-    number: u64,
-    clause: &Clause,
+    before: u64,
+    clause: Clause,
     step: &Step,
 ) -> Result<Line, AllocError>
-    ensures { IfOk result (λ line. line ≡ line_by problem.now numbers.now number clause.now step.now) }
+    requires { before + 1 < 2 ^ 64 }
+    ensures { IfOk result (λ line. line ≡ line_by problem.now numbers.now before clause step.now) }
 {
     let role = role_of(problem, step);
-    let clause = clause.copy(alloc)?;
-    let source = source_of(alloc, problem, numbers, step)?;
+    let source = source_of(alloc, problem, numbers, before, step)?;
     Ok(Line {
-        number,
+        number: before + 1,
         role,
         clause,
         source,
@@ -112,6 +187,7 @@ fn role_of(problem: &Problem, step: &Step) -> LineRole
             None => LineRole::Plain,
         },
         Step::Resolve { .. } => LineRole::Plain,
+        Step::Tidy => LineRole::Plain,
     }
 }
 
@@ -119,9 +195,10 @@ fn source_of(
     alloc: Global,
     problem: &Problem,
     numbers: &[u64],
+    before: u64,
     step: &Step,
 ) -> Result<LineSource, AllocError>
-    ensures { IfOk result (λ source. source ≡ source_by problem.now numbers.now step.now) }
+    ensures { IfOk result (λ source. source ≡ source_by problem.now numbers.now before step.now) }
 {
     match step {
         Step::Input { index } => input_source(alloc, problem.inputs.get(*index as usize)),
@@ -131,6 +208,14 @@ fn source_of(
             parents.push(number_at(numbers, neg.seq))?;
             Ok(LineSource::Inference {
                 step: step.copy(alloc)?,
+                parents,
+            })
+        }
+        Step::Tidy => {
+            let mut parents = Sequence::new(alloc);
+            parents.push(before)?;
+            Ok(LineSource::Inference {
+                step: Step::Tidy,
                 parents,
             })
         }

@@ -6,6 +6,7 @@ use Rattle.cd_clause.specs.declared.Literal.{Literal}
 use Rattle.cd_clause.specs.declared.Clause.{Clause}
 use Rattle.cd_clause.specs.Truth.{Interp, IsInterp, Point, Holds, Models, literal_true}
 use Rattle.cd_steps.specs.declared.Step.{Step}
+use Rattle.cd_steps.specs.declared.Step.TheVariants.{Input, Resolve, Tidy}
 use Rattle.cd_steps.specs.Steps.{HoldsIfAny}
 use Rattle.cd_steps.proofs.Soundness.{steps_are_sound}
 use Rattle.cd_read.specs.declared.problem.Problem.{Problem}
@@ -38,18 +39,17 @@ line_holds interp (l ∷ ls) number hold = at_by (l.number == number) interp l l
 found_holds : (interp : Interp) (ls : List Line) (number : ℕ) (c : Clause) → LinesHold interp ls → clause_at ls number ≡ Some c → Holds interp c
 found_holds interp ls number c hold found = subst (HoldsIfAny interp) found (line_holds interp ls number hold)
 
-inferred_holds : (interp : Interp) (before : List Line) (step : Step) (parents : List ℕ) (c : Clause) → LinesHold interp before → IsInferred before step parents c → Holds interp c
-inferred_holds interp before step [] c hold ok = steps_are_sound interp step None None None c tt tt tt ok
-inferred_holds interp before step (a ∷ []) c hold ok =
-    steps_are_sound interp step None (Some ok.0) None c tt (found_holds interp before a ok.0 hold ok.1) tt ok.2
-inferred_holds interp before step (a ∷ b ∷ []) c hold ok =
-    steps_are_sound interp step None (Some ok.0) (Some ok.1) c tt (found_holds interp before a ok.0 hold ok.2) (found_holds interp before b ok.1 hold ok.3) ok.4
-inferred_holds interp before step (a ∷ b ∷ d ∷ ns) c hold ok = absurd ok
+inferred_holds : (interp : Interp) (before : List Line) (step : Step) (parents : List ℕ) (c : Clause) → IsInterp interp → LinesHold interp before → IsInferred before step parents c → Holds interp c
+inferred_holds interp before (Input index) parents c is hold ok = absurd ok
+inferred_holds interp before (Resolve pos i neg j values) parents c is hold ok =
+    steps_are_sound interp (Resolve pos i neg j values) None (Some ok.2) (Some ok.3) c is tt (found_holds interp before ok.0 ok.2 hold ok.5) (found_holds interp before ok.1 ok.3 hold ok.6) ok.7
+inferred_holds interp before Tidy parents c is hold ok =
+    steps_are_sound interp Tidy (Some ok.1) None None c is (found_holds interp before ok.0 ok.1 hold ok.3) tt tt ok.4
 
-source_holds : (p : Problem) (interp : Interp) (before : List Line) (l : Line) (source : LineSource) → Models interp (input_clauses p.inputs) → LinesHold interp before → IsSourceOk p before l source → Holds interp l.clause
-source_holds p interp before l (File path label) inputs hold ok =
+source_holds : (p : Problem) (interp : Interp) (before : List Line) (l : Line) (source : LineSource) → IsInterp interp → Models interp (input_clauses p.inputs) → LinesHold interp before → IsSourceOk p before l source → Holds interp l.clause
+source_holds p interp before l (File path label) is inputs hold ok =
     subst (Holds interp) ok.clause_is (input_holds interp p.inputs ok.place ok.input inputs ok.there)
-source_holds p interp before l (Inference step parents) inputs hold ok = inferred_holds interp before step parents l.clause hold ok
+source_holds p interp before l (Inference step parents) is inputs hold ok = inferred_holds interp before step parents l.clause is hold ok
 
 push : (interp : Interp) (ls : List Line) (l : Line) → LinesHold interp ls → Holds interp l.clause → LinesHold interp (ls ++ l ∷ [])
 unfolding LinesHold
@@ -57,12 +57,12 @@ push interp [] l hold here = (here, tt)
 push interp (m ∷ ls) l hold here = (hold.0, push interp ls l hold.1 here)
 
 -- wherever the inputs hold, so do the clauses of right lines
-lines_hold : (p : Problem) (interp : Interp) (before ls : List Line) → Models interp (input_clauses p.inputs) → LinesHold interp before → AreLinesOk p before ls → LinesHold interp ls
+lines_hold : (p : Problem) (interp : Interp) (before ls : List Line) → IsInterp interp → Models interp (input_clauses p.inputs) → LinesHold interp before → AreLinesOk p before ls → LinesHold interp ls
 unfolding LinesHold
-lines_hold p interp before [] inputs hold ok = tt
-lines_hold p interp before (l ∷ ls) inputs hold ok =
-    let here = source_holds p interp before l l.source inputs hold ok.0.source in
-    (here, lines_hold p interp (before ++ l ∷ []) ls inputs (push interp before l hold here) ok.1)
+lines_hold p interp before [] is inputs hold ok = tt
+lines_hold p interp before (l ∷ ls) is inputs hold ok =
+    let here = source_holds p interp before l l.source is inputs hold ok.0.source in
+    (here, lines_hold p interp (before ++ l ∷ []) ls is inputs (push interp before l hold here) ok.1)
 
 -- the empty clause holds in no interpretation, since there is a point
 pub empty_fails : (interp : Interp) (c : Clause) → IsInterp interp → c.literals ≡ [] → Holds interp c → ⊥
@@ -81,4 +81,4 @@ end_fails interp (l ∷ m ∷ ls) is hold ends = end_fails interp (m ∷ ls) is 
 pub accepted_texts_refute : AcceptedTextsRefute
 unfolding LinesHold
 accepted_texts_refute p text accepted interp is inputs =
-    end_fails interp accepted.lines is (lines_hold p interp [] accepted.lines inputs tt accepted.refutes.right) accepted.refutes.end
+    end_fails interp accepted.lines is (lines_hold p interp [] accepted.lines is inputs tt accepted.refutes.right) accepted.refutes.end

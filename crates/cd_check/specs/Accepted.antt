@@ -4,7 +4,7 @@ use Rattle.std.specs.List.{AllByRecursion}
 use Rattle.cd_clause.specs.declared.Clause.{Clause}
 use Rattle.cd_clause.specs.Truth.{HaveNoModel}
 use Rattle.cd_steps.specs.declared.Step.{Step}
-use Rattle.cd_steps.specs.declared.Step.TheVariants.{Input, Resolve}
+use Rattle.cd_steps.specs.declared.Step.TheVariants.{Input, Resolve, Tidy}
 use Rattle.cd_steps.specs.Steps.{StepOk}
 use Rattle.cd_read.specs.declared.problem.Problem.{Problem}
 use Rattle.cd_read.specs.declared.problem.Input.{Input as ProblemInput}
@@ -35,16 +35,18 @@ is_taken (b ∷ bs) = not (b == 37)
 
 -- ---- the form of a line
 
--- places of literals are below 65,536
+-- places of literals are below 65,536; so far a substitution has no term
 abbrev pub IsStepFormed : Step → Type 0
 IsStepFormed (Input index) = Unit {0}
-IsStepFormed (Resolve pos i neg j subst) = (i < 65536) × (j < 65536)
+IsStepFormed (Resolve pos i neg j subst) = (i < 65536) × (j < 65536) × (subst ≡ [])
+IsStepFormed Tidy = Unit {0}
 
 -- a line that takes an input has its role, any other is plain and names a rule
 abbrev pub IsSourceFormed : Line → LineSource → Type 0
 IsSourceFormed l (File path label) = (i : ProblemInput) × (l.role ≡ Given i.role)
 IsSourceFormed l (Inference (Input index) parents) = ⊥
 IsSourceFormed l (Inference (Resolve pos i neg j subst) parents) = (l.role ≡ Plain) × IsStepFormed (Resolve pos i neg j subst) × (length parents ≡ 2)
+IsSourceFormed l (Inference Tidy parents) = (l.role ≡ Plain) × (length parents ≡ 1)
 
 pub record IsLineFormed (symbols : List Symbol) (l : Line) : Type 0 where
   pub number : 0 < l.number
@@ -69,12 +71,13 @@ pub record IsInput (p : Problem) (l : Line) (path : List ℕ) (label : Label) : 
   pub label_is : label_text input.label ≡ label_text label
   pub clause_is : input.clause ≡ l.clause
 
--- the parents are earlier lines, and the step is right with their clauses
+-- the parents are earlier lines, and the step is right with their clauses: those of the names in a step, or the clause before it
 abbrev pub IsInferred : List Line → Step → List ℕ → Clause → Type 0
-IsInferred before step [] clause = StepOk step None None None clause
-IsInferred before step (a ∷ []) clause = (x : Clause) × (clause_at before a ≡ Some x) × StepOk step None (Some x) None clause
-IsInferred before step (a ∷ b ∷ []) clause = (x : Clause) × (y : Clause) × (clause_at before a ≡ Some x) × (clause_at before b ≡ Some y) × StepOk step None (Some x) (Some y) clause
-IsInferred before step (a ∷ b ∷ c ∷ ns) clause = ⊥
+IsInferred before (Input index) parents clause = ⊥
+IsInferred before (Resolve pos i neg j subst) parents clause =
+    (a : ℕ) × (b : ℕ) × (x : Clause) × (y : Clause) × (parents ≡ a ∷ b ∷ []) × (clause_at before a ≡ Some x) × (clause_at before b ≡ Some y)
+    × StepOk (Resolve pos i neg j subst) None (Some x) (Some y) clause
+IsInferred before Tidy parents clause = (a : ℕ) × (x : Clause) × (parents ≡ a ∷ []) × (clause_at before a ≡ Some x) × StepOk Tidy (Some x) None None clause
 
 abbrev pub IsSourceOk : Problem → List Line → Line → LineSource → Type 0
 IsSourceOk p before l (File path label) = IsInput p l path label

@@ -1,29 +1,42 @@
-//! Clauses of first-order logic, so far without terms: an atom is a predicate symbol alone.
+//! Clauses of first-order logic with equality.
 //!
-//! A clause is a list of literals and stands for their disjunction. `specs/Truth.antt` says what a finite
-//! interpretation is and when a clause holds in one.
+//! A clause is a list of literals and stands for their disjunction, for all values of its variables.
+//! `specs/Truth.antt` says what a finite interpretation is and when a clause holds in one.
 #![tactic(auto)]
 
-ghost use Rattle.std.specs.Prelude.{◌≡◌, ◌<◌, ◌++◌, ◌↔◌, [], length, remove, IfOk, OnOk, IsTrue};
+ghost use Rattle.std.specs.Prelude.{◌≡◌, ◌↔◌, [], IsTrue};
+
+mod joining;
+pub mod laws;
+mod limits;
+mod renumbering;
+mod sizes;
+mod tautology;
+mod tidiness;
+mod tidying;
 
 use cd_list::{Copied, Equals, Sequence};
+use cd_term::{Args, Term};
+pub use joining::join;
+pub use limits::{measure_literals, within};
+pub use renumbering::renumber;
+pub use sizes::{size, variables};
 use std::alloc::{AllocError, Global};
+pub use tautology::{is_same_atom, is_tautology, is_trivial_atom};
+pub use tidiness::is_tidied;
+pub use tidying::tidy;
 
-/// A term. There are none so far.
-#[derive(Drop)]
-pub enum Term {}
-
-/// A substitution: place k holds the value of variable k. As no clause has a variable, it is empty so far.
-pub type Subst = Sequence<Term>;
-
-/// An atom; a symbol is its number in the problem's table of symbols.
-#[derive(Drop)]
+/// `$true`, a predicate symbol with its arguments, or an equation. A symbol is its number in the problem's
+/// table of symbols.
+#[derive(Debug, Drop)]
 pub enum Atom {
-    Pred(u16),
+    Truth,
+    Pred(u16, Args),
+    Equal(Term, Term),
 }
 
-/// An atom, or with `positive` false its negation.
-#[derive(Drop)]
+/// An atom, or with `positive` false its negation. `$false` is the negation of `Truth`.
+#[derive(Debug, Drop)]
 pub struct Literal {
     pub positive: bool,
     pub atom: Atom,
@@ -32,15 +45,17 @@ pub struct Literal {
 pub type Literals = Sequence<Literal>;
 
 /// A disjunction of literals; without any it is the empty clause, which holds nowhere.
-#[derive(Drop)]
+#[derive(Debug, Drop)]
 pub struct Clause {
     pub literals: Literals,
 }
 
 impl Copied for Atom {
-    fn copy(&self, _alloc: Global) -> Result<Atom, AllocError> {
+    fn copy(&self, alloc: Global) -> Result<Atom, AllocError> {
         match self {
-            Atom::Pred(symbol) => Ok(Atom::Pred(*symbol)),
+            Atom::Truth => Ok(Atom::Truth),
+            Atom::Pred(p, args) => Ok(Atom::Pred(*p, args.copy(alloc)?)),
+            Atom::Equal(left, right) => Ok(Atom::Equal(left.copy(alloc)?, right.copy(alloc)?)),
         }
     }
 }
@@ -48,7 +63,10 @@ impl Copied for Atom {
 impl Equals for Atom {
     fn equals(&self, other: &Atom) -> bool {
         match (self, other) {
-            (Atom::Pred(symbol), Atom::Pred(another)) => *symbol == *another,
+            (Atom::Truth, Atom::Truth) => true,
+            (Atom::Pred(p, args), Atom::Pred(q, others)) => *p == *q && args.equals(others),
+            (Atom::Equal(s, t), Atom::Equal(u, v)) => s.equals(u) && t.equals(v),
+            _ => false,
         }
     }
 }
@@ -90,44 +108,5 @@ impl Clause {
     }
 }
 
-/// The literals of `a` but the one in place `skip_a`, and then those of `b` but the one in place `skip_b`.
-pub fn join(
-    alloc: Global,
-    a: &Clause,
-    skip_a: u16,
-    b: &Clause,
-    skip_b: u16,
-) -> Result<Clause, AllocError>
-    requires in_a { skip_a < length a.now.literals }
-    requires in_b { skip_b < length b.now.literals }
-    ensures { IfOk result (λ c. c.literals ≡ remove a.now.literals skip_a ++ remove b.now.literals skip_b) }
-{
-    let mut literals = Sequence::new(alloc);
-    add_without(alloc, &mut literals, a.literals.as_slice(), skip_a as usize)?;
-    add_without(alloc, &mut literals, b.literals.as_slice(), skip_b as usize)?;
-    Ok(Clause { literals })
-}
-
-fn add_without(
-    alloc: Global,
-    into: &mut Literals,
-    literals: &[Literal],
-    skip: usize,
-) -> Result<(), AllocError>
-    requires { skip < length literals.now }
-    ensures { OnOk result (into.new ≡ into.old ++ remove literals.now skip) }
-{
-    let (front, _) = literals.split_at(skip);
-    add(alloc, into, front)?;
-    let (_, back) = literals.split_at(skip + 1);
-    add(alloc, into, back)
-}
-
-fn add(alloc: Global, into: &mut Literals, literals: &[Literal]) -> Result<(), AllocError>
-    ensures { OnOk result (into.new ≡ into.old ++ literals.now) }
-{
-    for literal in literals {
-        into.push(literal.copy(alloc)?)?;
-    }
-    Ok(())
-}
+#[cfg(test)]
+mod tests;

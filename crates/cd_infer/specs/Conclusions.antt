@@ -1,10 +1,10 @@
 -- What one clause concludes alone, and two together.
-use Rattle.std.specs.Prelude.{◌≡◌, ◌⊎◌, ℕ, List, [], ◌∷◌, ◌++◌, length, remove, slice_get}
+use Rattle.std.specs.Prelude.{◌≡◌, ◌⊎◌, ℕ, List, [], ◌∷◌, length, slice_get}
 use Rattle.std.specs.List.{range_with_len}
 use Rattle.cd_clause.specs.declared.Clause.{Clause}
-use Rattle.cd_steps.specs.declared.Name.{Name}
+use Rattle.cd_names.specs.declared.names.Name.{Name}
 use Rattle.cd_steps.specs.declared.Step.TheVariants.{Resolve}
-use Rattle.cd_steps.specs.Steps.{AreComplementary}
+use Rattle.cd_steps.specs.Steps.{AreComplementary, resolvent_of}
 use Rattle.cd_infer.specs.declared.Conclusion.{Conclusion}
 use Rattle.cd_infer.specs.Gathered.{Gathered}
 use Rattle.cd_infer.specs.Eligible.{IsEligible}
@@ -16,7 +16,7 @@ pub record IsResolvable (a : Clause) (i : ℕ) (b : Clause) (j : ℕ) : Type 0 w
   pub in_second : IsEligible b j
 
 abbrev pub resolvent : Name → Clause → ℕ → Name → Clause → ℕ → Conclusion
-resolvent a_name a i b_name b j = record { step = Resolve a_name i b_name j []; clause = record { literals = remove a.literals i ++ remove b.literals j } }
+resolvent a_name a i b_name b j = record { step = Resolve a_name i b_name j []; clause = resolvent_of a i b j }
 
 -- two places give their resolvent, or nothing
 abbrev pub ResolvesAt : Name → Clause → Name → Clause → ℕ → ℕ → List Conclusion → Type 0

@@ -1,21 +1,33 @@
 -- Which literals of a clause are used for inference.
-use Rattle.std.specs.Prelude.{◌≡◌, ℕ, Bool, false, ◌&&◌, ◌||◌, ◌==◌, not, nat_lt, Some, slice_get}
+use Rattle.std.specs.Prelude.{◌≡◌, ℕ, Bool, false, ◌&&◌, ◌||◌, ◌==◌, not, nat_lt, Option, Some, None, slice_get}
 use Rattle.std.specs.List.{list_any}
 use Rattle.cd_clause.specs.declared.Atom.{Atom}
-use Rattle.cd_clause.specs.declared.Atom.TheVariants.{Pred}
+use Rattle.cd_clause.specs.declared.Atom.TheVariants.{Truth, Pred, Equal}
 use Rattle.cd_clause.specs.declared.Literal.{Literal}
 use Rattle.cd_clause.specs.declared.Clause.{Clause}
 
--- of two predicate symbols the one of greater number is greater
-abbrev pub atom_greater : Atom → Atom → Bool
-atom_greater (Pred m) (Pred n) = nat_lt n m
+-- the predicate of an atom, if it has one
+abbrev pub predicate_of : Atom → Option ℕ
+predicate_of Truth = None
+predicate_of (Pred n args) = Some n
+predicate_of (Equal s t) = None
 
-abbrev pub same_atom : Atom → Atom → Bool
-same_atom (Pred m) (Pred n) = m == n
+-- of two predicates the one of greater number is greater; so far no other atom is
+abbrev pub predicate_greater : Option ℕ → Option ℕ → Bool
+predicate_greater None n = false
+predicate_greater (Some m) None = false
+predicate_greater (Some m) (Some n) = nat_lt n m
 
--- the order of literals: by atoms, and of two literals with one atom the negative is greater
+abbrev pub same_predicate : Option ℕ → Option ℕ → Bool
+same_predicate None n = false
+same_predicate (Some m) None = false
+same_predicate (Some m) (Some n) = m == n
+
+-- the order of literals: by predicates, and of two literals with one predicate the negative is greater
 abbrev pub literal_greater : Literal → Literal → Bool
-literal_greater l m = atom_greater l.atom m.atom || (same_atom l.atom m.atom && (not l.positive && m.positive))
+literal_greater l m =
+    predicate_greater (predicate_of l.atom) (predicate_of m.atom)
+    || (same_predicate (predicate_of l.atom) (predicate_of m.atom) && (not l.positive && m.positive))
 
 -- literal i is there, and no literal of the clause is greater
 pub record IsEligible (c : Clause) (i : ℕ) : Type 0 where

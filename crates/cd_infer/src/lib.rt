@@ -7,13 +7,14 @@
 
 ghost use Rattle.std.specs.Prelude.{◌≡◌, ◌↔◌, ◌<◌, ◌++◌, List, length, IsTrue, IfOk, OnOk};
 ghost use Rattle.std.specs.List.{list_any};
-ghost use Rattle.cd_infer.specs.Eligible.{literal_greater, atom_greater, IsEligible};
+ghost use Rattle.cd_infer.specs.Eligible.{literal_greater, predicate_of, IsEligible};
 ghost use Rattle.cd_infer.specs.Conclusions.{IsResolvable, ResolvesAt, ResolvesFrom, PairConcludes, SoloConcludes};
 ghost use Rattle.cd_infer.specs.declared.Conclusion.{Conclusion};
 
-use cd_clause::{Atom, Clause, Literal, join};
+use cd_clause::{Atom, Clause, Literal};
 use cd_list::Sequence;
-use cd_steps::{Name, Step, are_complementary};
+use cd_names::Name;
+use cd_steps::{Step, are_complementary, resolvent};
 use std::alloc::{AllocError, Global};
 
 /// A step that the peers haven't recorded yet, and the clause that it gives.
@@ -25,13 +26,28 @@ pub struct Conclusion {
 
 pub type Conclusions = Sequence<Conclusion>;
 
-/// Whether literal `l` is greater than literal `m`: by their atoms, and where these are equal the negative
-/// literal is the greater one. No memory is taken.
+/// Whether literal `l` is greater than literal `m`: by their predicates, and where these are the same the
+/// negative literal is the greater one. No memory is taken.
 pub fn literal_greater(l: &Literal, m: &Literal) -> bool
     ensures { result ≡ literal_greater l.now m.now }
 {
-    let (Atom::Pred(left), Atom::Pred(right)) = (&l.atom, &m.atom);
-    *right < *left || (*left == *right && (!l.positive && m.positive))
+    match (predicate_of(&l.atom), predicate_of(&m.atom)) {
+        (Some(left), Some(right)) => {
+            right < left || (left == right && (!l.positive && m.positive))
+        }
+        (Some(_), None) => false,
+        (None, _) => false,
+    }
+}
+
+fn predicate_of(atom: &Atom) -> Option<u16>
+    ensures { result ≡ predicate_of atom.now }
+{
+    match atom {
+        Atom::Truth => None,
+        Atom::Pred(symbol, _) => Some(*symbol),
+        Atom::Equal(_, _) => None,
+    }
 }
 
 /// Whether no literal of the clause is greater than literal `i`. No memory is taken.
@@ -114,8 +130,8 @@ fn resolve_at(
 {
     let mut part = Sequence::new(alloc);
     if is_resolvable(a, i, b, j) {
+        let clause = resolvent(alloc, a, i, b, j)?;
         let (i, j) = (i as u16, j as u16);
-        let clause = join(alloc, a, i, b, j)?;
         let step = Step::Resolve {
             pos: a_name,
             i,

@@ -1,12 +1,17 @@
 -- The clauses that the peers carry have exactly the models of the input: each event keeps them.
 use Rattle.std.proofs.Common.{◌≡◌, ◌↔◌, ℕ, zero, suc, ◌+◌, ◌==◌, inl, inr, Bool, true, false, cond, List, [], ◌∷◌, ◌++◌, length, map, filter, remove, Some, None, slice_get, slice_set, refl, sym, ap, ◌∙◌, subst, arith}
-use Rattle.std.specs.List.{AllByRecursion, range_with_len, flat_map}
+use Rattle.std.specs.List.{AllByRecursion, list_any, range_with_len, flat_map}
 use Rattle.std.proofs.lemmas.Bool.Decides.{nat_tests}
 use Rattle.cd_clause.specs.declared.Clause.{Clause}
-use Rattle.cd_clause.specs.Truth.{Interp, Holds, Models}
-use Rattle.cd_steps.specs.declared.Name.{Name}
-use Rattle.cd_steps.specs.declared.Step.TheVariants.{Resolve}
-use Rattle.cd_steps.proofs.Soundness.{steps_are_sound}
+use Rattle.cd_clause.specs.Truth.{Interp, IsInterp, Holds, Models, literal_true}
+use Rattle.cd_clause.specs.Clauses.{Among}
+use Rattle.cd_clause.specs.declared.Literal.{Literal}
+use Rattle.cd_clause.proofs.TidyLemmas.{tidy_holds, tautology_holds}
+use Rattle.cd_names.specs.declared.names.Name.{Name}
+use Rattle.cd_steps.specs.declared.Step.{Step}
+use Rattle.cd_steps.specs.declared.Step.TheVariants.{Input, Resolve}
+use Rattle.cd_steps.specs.Steps.{resolvent_of}
+use Rattle.cd_steps.proofs.Soundness.{either, left_true, right_true, steps_are_sound}
 use Rattle.cd_infer.specs.declared.Conclusion.{Conclusion}
 use Rattle.cd_infer.specs.Conclusions.{ResolvesAt, ResolvesFrom, PairConcludes}
 use Rattle.cd_read.specs.declared.problem.Problem.{Problem}
@@ -18,17 +23,20 @@ use Rattle.cd_ledger.specs.declared.Item.{Item}
 use Rattle.cd_ledger.specs.declared.Known.{Known}
 use Rattle.cd_ledger.specs.declared.Limits.{Limits}
 use Rattle.cd_ledger.specs.declared.Local.{Local}
-use Rattle.cd_ledger.specs.declared.Outcome.TheVariants.{Named}
+use Rattle.cd_ledger.specs.declared.Origin.{Origin}
+use Rattle.cd_ledger.specs.declared.Origin.TheVariants as origin
+use Rattle.cd_ledger.specs.declared.Outcome.TheVariants.{Named, Trivial, Subsumed}
 use Rattle.cd_ledger.specs.declared.Task.{Task}
 use Rattle.cd_ledger.specs.declared.Task.TheVariants.{Solo, Pair}
 use Rattle.cd_ledger.specs.Names.{name_eq, look}
 use Rattle.cd_ledger.specs.declared.Record.{Record}
-use Rattle.cd_ledger.specs.Machine.{start_local, items_from, items_of, recorded_item, IsQuiet, Concludes, Found, Fits, acted, after}
-use Rattle.cd_ledger.specs.World.{World, Run, WorldStep, start_world}
+use Rattle.cd_ledger.specs.Machine.{IsItemOf, AreInputItems, AreTaskItems, IsStart, Subsumes, IsFirstSubsumer, recorded_item, IsQuiet, Concludes, Found, Fits, acted, after}
+use Rattle.cd_ledger.specs.World.{World, Run, WorldStep, IsStartWorld}
 use Rattle.cd_ledger.proofs.Lists.{all_append, all_remove, all_get, all_find, all_set}
 use Rattle.cd_laws.specs.Right.{record_of, records_of}
 use Rattle.cd_laws.specs.Models.{is_live_at, clause_of, carried_by, recorded_clauses, RunsKeepModels, ClosedRunsKeepModels}
-use Rattle.cd_laws.proofs.RightLemmas.{each_gathered}
+use Rattle.cd_ledger.proofs.TidyItems.{item_tidied, task_items_all}
+use Rattle.cd_ledger.proofs.FewLemmas.{each_gathered}
 
 -- ---- lists
 
@@ -79,11 +87,13 @@ equal_itself n = grind (arith, nat_tests)
 
 acted_live : (s : Local) (act : Act) (found : Found act) → AllLive s → Fits s act found → AllLive (acted s act found)
 unfolding AllLive
+acted_live s (Keep place) (item, Trivial) all fits = all
+acted_live s (Keep place) (item, Subsumed n) all fits = all
 acted_live s (Keep place) (item, Named n) all fits =
-    let owner : n.peer ≡ s.me = ap (λ (m : Name). m.peer) fits.1 in
+    let owner : n.peer ≡ s.me = ap (λ (m : Name). m.peer) fits.1.2 in
     let live : is_live_at s.me (recorded_item n item) ≡ true = ap (λ (m : ℕ). m == s.me) owner ∙ equal_itself s.me in
     all_append (λ k. is_live_at s.me k ≡ true) s.known (recorded_item n item ∷ []) all (live, tt)
-acted_live s (Work task) found all fits = all
+acted_live s (Work task) y all fits = all
 acted_live s Declare found all fits = all
 acted_live s (End verdict) found all fits = all
 
@@ -99,48 +109,80 @@ record HoldAt (interp : Interp) (s : Local) : Type 0 where
   pub pending : AllByRecursion (λ i. Holds interp i.clause) s.pending
 
 -- conclusions hold where their premises do
-at_hold : (interp : Interp) (m n : Name) (a b : Clause) (i j : ℕ) (part : List Conclusion) → Holds interp a → Holds interp b → ResolvesAt m a n b i j part → AllByRecursion (λ c. Holds interp c.clause) part
-at_hold interp m n a b i j part ha hb (inl r) =
-    let result : Clause = record { literals = remove a.literals i ++ remove b.literals j } in
-    let here : Holds interp result = steps_are_sound interp (Resolve m i n j []) None (Some a) (Some b) result tt ha hb
+at_hold : (interp : Interp) (m n : Name) (a b : Clause) (i j : ℕ) (part : List Conclusion) → IsInterp interp → Holds interp a → Holds interp b → ResolvesAt m a n b i j part → AllByRecursion (λ c. Holds interp c.clause) part
+at_hold interp m n a b i j part is ha hb (inl r) =
+    let result : Clause = resolvent_of a i b j in
+    let here : Holds interp result = steps_are_sound interp (Resolve m i n j []) None (Some a) (Some b) result is tt ha hb
     (record { left = a; right = b; has_left = refl; has_right = refl; resolves = record { complementary = r.0.complementary; covers = refl; rest = refl } }) in
     subst (λ (cs : List Conclusion). AllByRecursion (λ c. Holds interp c.clause) cs) (sym r.1) (here, tt)
-at_hold interp m n a b i j part ha hb (inr r) = subst (λ (cs : List Conclusion). AllByRecursion (λ c. Holds interp c.clause) cs) (sym r.1) tt
+at_hold interp m n a b i j part is ha hb (inr r) = subst (λ (cs : List Conclusion). AllByRecursion (λ c. Holds interp c.clause) cs) (sym r.1) tt
 
-pair_hold : (interp : Interp) (m n : Name) (a b : Clause) (found : List Conclusion) → Holds interp a → Holds interp b → PairConcludes m a n b found → AllByRecursion (λ c. Holds interp c.clause) found
-pair_hold interp m n a b found ha hb g =
+pair_hold : (interp : Interp) (m n : Name) (a b : Clause) (found : List Conclusion) → IsInterp interp → Holds interp a → Holds interp b → PairConcludes m a n b found → AllByRecursion (λ c. Holds interp c.clause) found
+pair_hold interp m n a b found is ha hb g =
     each_gathered (λ c. Holds interp c.clause) (ResolvesFrom m a n b) (range_with_len 0 (length a.literals)) found (λ i part r.
-    each_gathered (λ c. Holds interp c.clause) (ResolvesAt m a n b i) (range_with_len 0 (length b.literals)) part (λ j q s. at_hold interp m n a b i j q ha hb s) r) g
+    each_gathered (λ c. Holds interp c.clause) (ResolvesAt m a n b i) (range_with_len 0 (length b.literals)) part (λ j q s. at_hold interp m n a b i j q is ha hb s) r) g
 
 look_holds : (interp : Interp) (known : List Known) (n : Name) (x : Known) → AllByRecursion (λ k. Holds interp k.entry.clause) known → look known n ≡ Some x → Holds interp x.entry.clause
 look_holds interp known n x all found = all_find (λ k. Holds interp k.entry.clause) (λ k. name_eq k.entry.name n) known x all found
 
-concluded_hold : (interp : Interp) (known : List Known) (t : Task) (found : List Conclusion) → AllByRecursion (λ k. Holds interp k.entry.clause) known → Concludes known t found → AllByRecursion (λ c. Holds interp c.clause) found
-concluded_hold interp known (Solo a) found all c = subst (λ (cs : List Conclusion). AllByRecursion (λ x. Holds interp x.clause) cs) (sym c.2) tt
-concluded_hold interp known (Pair a b) found all c =
-    pair_hold interp a b c.0.entry.clause c.1.entry.clause found (look_holds interp known a c.0 all c.2) (look_holds interp known b c.1 all c.3) c.4
+concluded_hold : (interp : Interp) (known : List Known) (t : Task) (found : List Conclusion) → IsInterp interp → AllByRecursion (λ k. Holds interp k.entry.clause) known → Concludes known t found → AllByRecursion (λ c. Holds interp c.clause) found
+concluded_hold interp known (Solo a) found is all c = subst (λ (cs : List Conclusion). AllByRecursion (λ x. Holds interp x.clause) cs) (sym c.2) tt
+concluded_hold interp known (Pair a b) found is all c =
+    pair_hold interp a b c.0.entry.clause c.1.entry.clause found is (look_holds interp known a c.0 all c.2) (look_holds interp known b c.1 all c.3) c.4
 
-items_hold : (interp : Interp) (t : Task) (k : ℕ) (found : List Conclusion) → AllByRecursion (λ c. Holds interp c.clause) found → AllByRecursion (λ i. Holds interp i.clause) (items_of t k found)
-items_hold interp t k [] all = tt
-items_hold interp t k (c ∷ cs) all = (all.0, items_hold interp t (k + 1) cs all.1)
+-- an item holds where what its step gives does
+item_holds : (interp : Interp) (o : Origin) (s : Step) (c : Clause) (item : Item) → IsInterp interp → IsItemOf o s c item → Holds interp c ↔ Holds interp item.clause
+item_holds interp o s c item is of_ = let t = tidy_holds interp c item.clause is (item_tidied o s c item of_) in (t.0, t.1)
+
+items_hold : (interp : Interp) (t : Task) (found : List Conclusion) (items : List Item) → IsInterp interp → AllByRecursion (λ c. Holds interp c.clause) found → AreTaskItems t 0 found items → AllByRecursion (λ i. Holds interp i.clause) items
+items_hold interp t found items is all are =
+    task_items_all (λ c. Holds interp c.clause) (λ i. Holds interp i.clause) t 0 found items (λ n c i h of_. (item_holds interp (origin.Task t n) c.step c.clause i is of_).0 h) are all
+
+-- a clause all of whose literals occur in another holds only where that does
+any_occurs : (test : Literal → Bool) (l : Literal) (ms : List Literal) → Among (λ m. l ≡ m) ms → test l ≡ true → list_any test ms ≡ true
+any_occurs test l [] some is = absurd some
+any_occurs test l (m ∷ ms) (inl e) is = left_true (test m) (list_any test ms) (ap test (sym e) ∙ is)
+any_occurs test l (m ∷ ms) (inr later) is = right_true (test m) (list_any test ms) (any_occurs test l ms later is)
+
+any_subsumed : (test : Literal → Bool) (ls ms : List Literal) → AllByRecursion (λ l. Among (λ m. l ≡ m) ms) ls → list_any test ls ≡ true → list_any test ms ≡ true
+any_subsumed test [] ms all any = absurd cc
+any_subsumed test (l ∷ ls) ms all any = elim (either (test l) (list_any test ls) any) [
+  | inl here ↦ any_occurs test l ms all.0 here
+  | inr later ↦ any_subsumed test ls ms all.1 later
+]
+
+subsumed_holds : (interp : Interp) (d c : Clause) → Subsumes d c → Holds interp d → Holds interp c
+subsumed_holds interp d c sub h = record { at_each = λ point within. any_subsumed (literal_true interp point) d.literals c.literals sub (h.at_each point within) }
+
+-- what holds of each holds of the one behind a front
+all_at : {A : Type 0} (P : A → Type 0) (xs : List A) (x : A) (ys : List A) → AllByRecursion P (xs ++ x ∷ ys) → P x
+all_at P [] x ys all = all.0
+all_at P (z ∷ xs) x ys all = all_at P xs x ys all.1
+
+subsumer_holds : (interp : Interp) (known : List Known) (c : Clause) (k : Known) → IsFirstSubsumer known c k → AllByRecursion (λ x. Holds interp x.entry.clause) known → Holds interp c
+subsumer_holds interp known c k first all =
+    subsumed_holds interp k.entry.clause c first.subsumes.1
+    (all_at (λ x. Holds interp x.entry.clause) first.front k first.back (subst (AllByRecursion (λ x. Holds interp x.entry.clause)) first.split all))
 
 -- what holds before an event holds after it
-acted_hold : (interp : Interp) (s : Local) (act : Act) (found : Found act) → Fits s act found → HoldAt interp s → HoldAt interp (acted s act found)
-acted_hold interp s (Keep place) (item, Named n) fits h = record {
+acted_hold : (interp : Interp) (s : Local) (act : Act) (found : Found act) → IsInterp interp → Fits s act found → HoldAt interp s → HoldAt interp (acted s act found)
+acted_hold interp s (Keep place) (item, Named n) is fits h = record {
   known = all_append (λ k. Holds interp k.entry.clause) s.known (recorded_item n item ∷ []) h.known (all_get (λ (i : Item). Holds interp i.clause) s.pending place item h.pending fits.0, tt);
   pending = all_remove (λ i. Holds interp i.clause) s.pending place h.pending;
 }
-acted_hold interp s (Work task) (others, found) fits h = record {
+acted_hold interp s (Keep place) (item, Trivial) is fits h = record { known = h.known; pending = all_remove (λ i. Holds interp i.clause) s.pending place h.pending }
+acted_hold interp s (Keep place) (item, Subsumed n) is fits h = record { known = h.known; pending = all_remove (λ i. Holds interp i.clause) s.pending place h.pending }
+acted_hold interp s (Work task) y is fits h = record {
   known = h.known;
-  pending = all_append (λ i. Holds interp i.clause) s.pending (items_of task 0 found) h.pending (items_hold interp task 0 found (concluded_hold interp s.known task found h.known fits.2));
+  pending = all_append (λ i. Holds interp i.clause) s.pending y.items h.pending (items_hold interp task y.found y.items is (concluded_hold interp s.known task y.found is h.known fits.1.concludes) fits.1.items);
 }
-acted_hold interp s Declare found fits h = record { known = h.known; pending = h.pending }
-acted_hold interp s (End verdict) found fits h = record { known = h.known; pending = h.pending }
+acted_hold interp s Declare found is fits h = record { known = h.known; pending = h.pending }
+acted_hold interp s (End verdict) found is fits h = record { known = h.known; pending = h.pending }
 
-after_hold : (interp : Interp) (s : Local) (e : Event) (found : Found e.act) → Fits s e.act found → HoldAt interp s → HoldAt interp (after s e found)
-after_hold interp s e found fits h = let a = acted_hold interp s e.act found fits h in record { known = a.known; pending = a.pending }
+after_hold : (interp : Interp) (s : Local) (e : Event) (found : Found e.act) → IsInterp interp → Fits s e.act found → HoldAt interp s → HoldAt interp (after s e found)
+after_hold interp s e found is fits h = let a = acted_hold interp s e.act found is fits h in record { known = a.known; pending = a.pending }
 
--- what holds after an event held before it
+-- what holds after an event held before it: what was named still stands, and what was dropped holds by itself or by what is known
 acted_held : (interp : Interp) (s : Local) (act : Act) (found : Found act) → Fits s act found → HoldAt interp (acted s act found) → HoldAt interp s
 acted_held interp s (Keep place) (item, Named n) fits h =
     let kept = all_right (λ k. Holds interp k.entry.clause) s.known (recorded_item n item ∷ []) h.known in
@@ -148,7 +190,11 @@ acted_held interp s (Keep place) (item, Named n) fits h =
       known = all_left (λ k. Holds interp k.entry.clause) s.known (recorded_item n item ∷ []) h.known;
       pending = all_unremove (λ (i : Item). Holds interp i.clause) s.pending place item fits.0 kept.0 h.pending;
     }
-acted_held interp s (Work task) (others, found) fits h = record { known = h.known; pending = all_left (λ i. Holds interp i.clause) s.pending (items_of task 0 found) h.pending }
+acted_held interp s (Keep place) (item, Trivial) fits h =
+    record { known = h.known; pending = all_unremove (λ (i : Item). Holds interp i.clause) s.pending place item fits.0 (tautology_holds interp item.clause fits.1) h.pending }
+acted_held interp s (Keep place) (item, Subsumed n) fits h =
+    record { known = h.known; pending = all_unremove (λ (i : Item). Holds interp i.clause) s.pending place item fits.0 (subsumer_holds interp s.known item.clause fits.1.1.0 fits.1.1.1 h.known) h.pending }
+acted_held interp s (Work task) y fits h = record { known = h.known; pending = all_left (λ i. Holds interp i.clause) s.pending y.items h.pending }
 acted_held interp s Declare found fits h = record { known = h.known; pending = h.pending }
 acted_held interp s (End verdict) found fits h = record { known = h.known; pending = h.pending }
 
@@ -157,20 +203,20 @@ after_held interp s e found fits h = acted_held interp s e.act found fits (recor
 
 -- ---- runs
 
-step_hold : (interp : Interp) (w v : World) (e : Event) → WorldStep w e v → AllByRecursion (HoldAt interp) w.locals ↔ AllByRecursion (HoldAt interp) v.locals
-step_hold interp w v e step =
+step_hold : (interp : Interp) (w v : World) (e : Event) → IsInterp interp → WorldStep w e v → AllByRecursion (HoldAt interp) w.locals ↔ AllByRecursion (HoldAt interp) v.locals
+step_hold interp w v e is step =
     let P = HoldAt interp in
     let next = after step.before e step.found in (
-      λ all. subst (AllByRecursion P) (sym step.stepped) (all_set P w.locals e.peer next all (after_hold interp step.before e step.found step.legal.fits (all_get P w.locals e.peer step.before all step.there))),
+      λ all. subst (AllByRecursion P) (sym step.stepped) (all_set P w.locals e.peer next all (after_hold interp step.before e step.found is step.legal.fits (all_get P w.locals e.peer step.before all step.there))),
       λ all. all_unset P w.locals e.peer step.before next step.there (after_held interp step.before e step.found step.legal.fits) (subst (AllByRecursion P) step.stepped all),
     )
 
-run_hold : (interp : Interp) (w v : World) (es : List Event) → Run w es v → AllByRecursion (HoldAt interp) w.locals ↔ AllByRecursion (HoldAt interp) v.locals
-run_hold interp w v [] run =
+run_hold : (interp : Interp) (w v : World) (es : List Event) → IsInterp interp → Run w es v → AllByRecursion (HoldAt interp) w.locals ↔ AllByRecursion (HoldAt interp) v.locals
+run_hold interp w v [] is run =
     (λ all. subst (λ (x : World). AllByRecursion (HoldAt interp) x.locals) (sym run) all, λ all. subst (λ (x : World). AllByRecursion (HoldAt interp) x.locals) run all)
-run_hold interp w v (e ∷ es) run =
-    let first = step_hold interp w run.0 e run.1 in
-    let others = run_hold interp run.0 v es run.2 in
+run_hold interp w v (e ∷ es) is run =
+    let first = step_hold interp w run.0 e is run.1 in
+    let others = run_hold interp run.0 v es is run.2 in
     (λ all. others.0 (first.0 all), λ all. first.1 (others.1 all))
 
 step_live : (w v : World) (e : Event) → AllByRecursion AllLive w.locals → WorldStep w e v → AllByRecursion AllLive v.locals
@@ -211,30 +257,42 @@ world_hold interp (s ∷ ss) live =
 
 -- ---- the start
 
-inputs_hold : (interp : Interp) (k : ℕ) (is : List ProblemInput) → Models interp (map (λ i. i.clause) is) → AllByRecursion (λ i. Holds interp i.clause) (items_from k is)
-inputs_hold interp k [] all = tt
-inputs_hold interp k (i ∷ is) all = (all.0, inputs_hold interp (k + 1) is all.1)
+inputs_hold : (interp : Interp) (k : ℕ) (is : List ProblemInput) (items : List Item) → IsInterp interp → AreInputItems k is items → Models interp (map (λ i. i.clause) is) ↔ AllByRecursion (λ i. Holds interp i.clause) items
+inputs_hold interp k [] items ok are = (λ models. subst (AllByRecursion (λ i. Holds interp i.clause)) (sym are) tt, λ all. tt)
+inputs_hold interp k (i ∷ is) items ok are =
+    let here = item_holds interp (origin.Input k) (Input k) i.clause are.0 ok are.2 in
+    let others = inputs_hold interp (k + 1) is are.1 ok are.3 in (
+      λ models. subst (AllByRecursion (λ x. Holds interp x.clause)) (sym are.4) (here.0 models.0, others.0 models.1),
+      λ all. let both = subst (AllByRecursion (λ x. Holds interp x.clause)) are.4 all in (here.1 both.0, others.1 both.1),
+    )
 
-inputs_held : (interp : Interp) (k : ℕ) (is : List ProblemInput) → AllByRecursion (λ i. Holds interp i.clause) (items_from k is) → Models interp (map (λ i. i.clause) is)
-inputs_held interp k [] all = tt
-inputs_held interp k (i ∷ is) all = (all.0, inputs_held interp (k + 1) is all.1)
+start_hold : (interp : Interp) (p : Problem) (limits : Limits) (s : Local) → IsInterp interp → IsStart p limits s → Models interp (map (λ i. i.clause) p.inputs) ↔ HoldAt interp s
+start_hold interp p limits s ok start =
+    let inputs = inputs_hold interp 0 p.inputs start.items ok start.inputs in (
+      λ models. subst (HoldAt interp) (sym start.state) (record { known = tt; pending = inputs.0 models }),
+      λ h. inputs.1 (subst (HoldAt interp) start.state h).pending,
+    )
 
-start_hold : (interp : Interp) (p : Problem) (limits : Limits) → Models interp (map (λ i. i.clause) p.inputs) ↔ HoldAt interp (start_local p limits)
-unfolding start_local
-start_hold interp p limits = (λ models. record { known = tt; pending = inputs_hold interp 0 p.inputs models }, λ h. inputs_held interp 0 p.inputs h.pending)
+start_live : (p : Problem) (limits : Limits) (s : Local) → IsStart p limits s → AllLive s
+unfolding AllLive
+start_live p limits s start = subst (λ (t : Local). AllByRecursion (λ k. is_live_at t.me k ≡ true) t.known) (sym start.state) tt
 
-start_live : (p : Problem) (limits : Limits) → AllLive (start_local p limits)
-unfolding start_local AllLive
-start_live p limits = tt
+-- the start of a run
+runs_start : (interp : Interp) (p : Problem) (limits : Limits) (w : World) → IsInterp interp → IsStartWorld p limits w → Models interp (map (λ i. i.clause) p.inputs) ↔ AllByRecursion (HoldAt interp) w.locals
+runs_start interp p limits w ok starts =
+    let start = start_hold interp p limits starts.local ok starts.starts in (
+      λ models. subst (λ (v : World). AllByRecursion (HoldAt interp) v.locals) (sym starts.alone) (start.0 models, tt),
+      λ all. start.1 (subst (λ (v : World). AllByRecursion (HoldAt interp) v.locals) starts.alone all).0,
+    )
 
 pub runs_keep_models : RunsKeepModels
-unfolding start_world
-runs_keep_models p limits es w run interp =
-    let live = run_live (start_world p limits) w es (start_live p limits, tt) run in
+runs_keep_models p limits es w runs interp ok =
+    let first : AllByRecursion AllLive runs.first.locals = subst (λ (v : World). AllByRecursion AllLive v.locals) (sym runs.starts.alone) (start_live p limits runs.starts.local runs.starts.starts, tt) in
+    let live = run_live runs.first w es first runs.run in
     let carried = world_hold interp w.locals live in
-    let same = run_hold interp (start_world p limits) w es run in
-    let start = start_hold interp p limits in
-    (λ models. start.1 (same.1 (carried.0 models)).0, λ models. carried.1 (same.0 (start.0 models, tt)))
+    let same = run_hold interp runs.first w es ok runs.run in
+    let start = runs_start interp p limits runs.first ok runs.starts in
+    (λ models. start.1 (same.1 (carried.0 models)), λ models. carried.1 (same.0 (start.0 models)))
 
 -- ---- closed runs
 
@@ -252,9 +310,8 @@ closed_hold interp (s ∷ ss) quiet =
     )
 
 pub closed_runs_keep_models : ClosedRunsKeepModels
-unfolding start_world
-closed_runs_keep_models p limits es w run closed interp =
+closed_runs_keep_models p limits es w runs closed interp ok =
     let recorded = closed_hold interp w.locals closed.quiet in
-    let same = run_hold interp (start_world p limits) w es run in
-    let start = start_hold interp p limits in
-    (λ models. start.1 (same.1 (recorded.0 models)).0, λ models. recorded.1 (same.0 (start.0 models, tt)))
+    let same = run_hold interp runs.first w es ok runs.run in
+    let start = runs_start interp p limits runs.first ok runs.starts in
+    (λ models. start.1 (same.1 (recorded.0 models)), λ models. recorded.1 (same.0 (start.0 models)))

@@ -7,15 +7,16 @@ use Rattle.std.proofs.lemmas.Option.{slice_get-map, slice_get_within}
 use Rattle.std.specs.Option.{option_map}
 use Rattle.cd_clause.specs.declared.Clause.{Clause}
 use Rattle.cd_clause.specs.declared.Literal.{Literal}
-use Rattle.cd_steps.specs.declared.Name.{Name}
+use Rattle.cd_clause.specs.Clauses.{IsTautology}
+use Rattle.cd_names.specs.declared.names.Name.{Name}
 use Rattle.cd_steps.specs.declared.Step.{Step}
-use Rattle.cd_steps.specs.declared.Step.TheVariants.{Input, Resolve}
+use Rattle.cd_steps.specs.declared.Step.TheVariants.{Input, Resolve, Tidy}
+use Rattle.cd_steps.specs.Steps.{resolvent_of}
 use Rattle.cd_infer.specs.declared.Conclusion.{Conclusion}
-use Rattle.cd_infer.specs.Gathered.{Gathered}
 use Rattle.cd_infer.specs.Conclusions.{ResolvesAt, ResolvesFrom, PairConcludes}
 use Rattle.cd_read.specs.declared.problem.Problem.{Problem}
 use Rattle.cd_read.specs.declared.problem.Input.{Input as ProblemInput}
-use Rattle.cd_read.specs.Problems.{AreUnits}
+use Rattle.cd_read.specs.Problems.{IsPropositional, ArePropositional}
 use Rattle.cd_ledger.specs.declared.Act.{Act}
 use Rattle.cd_ledger.specs.declared.Act.TheVariants.{Keep, Work, Declare, End}
 use Rattle.cd_ledger.specs.declared.Event.{Event}
@@ -23,32 +24,39 @@ use Rattle.cd_ledger.specs.declared.Item.{Item}
 use Rattle.cd_ledger.specs.declared.Known.{Known}
 use Rattle.cd_ledger.specs.declared.Limits.{Limits}
 use Rattle.cd_ledger.specs.declared.Local.{Local}
-use Rattle.cd_ledger.specs.declared.Outcome.TheVariants.{Named}
+use Rattle.cd_ledger.specs.declared.Origin.{Origin}
+use Rattle.cd_ledger.specs.declared.Origin.TheVariants as origin
+use Rattle.cd_ledger.specs.declared.Outcome.{Outcome}
+use Rattle.cd_ledger.specs.declared.Outcome.TheVariants.{Named, Trivial, Subsumed}
 use Rattle.cd_ledger.specs.declared.Record.{Record}
 use Rattle.cd_ledger.specs.declared.Task.{Task}
 use Rattle.cd_ledger.specs.declared.Task.TheVariants.{Solo, Pair}
 use Rattle.cd_ledger.specs.declared.Verdict.{Verdict}
 use Rattle.cd_ledger.specs.declared.Verdict.TheVariants.{Refuted, Saturated, Spent}
 use Rattle.cd_ledger.specs.Names.{name_eq, look}
-use Rattle.cd_ledger.specs.Machine.{start_local, items_from, items_of, next_name, recorded_item, kept, is_empty, Concludes, Found, Fits, acted, after}
-use Rattle.cd_ledger.specs.World.{World, Run, WorldStep, start_world, has_empty}
-use Rattle.cd_ledger.proofs.Lists.{all_append, all_remove, all_weaker, all_get, all_set, length_remove, get_left, get_at, found_at}
+use Rattle.cd_ledger.specs.Machine.{IsItemOf, AreInputItems, AreTaskItems, IsStart, next_name, recorded_item, dropped, kept, is_empty, Concludes, Found, Fits, acted, after}
+use Rattle.cd_ledger.specs.Lean.{IsCandidate, IsUsable}
+use Rattle.cd_ledger.specs.World.{World, Run, WorldStep, has_empty}
+use Rattle.cd_ledger.proofs.Lists.{all_append, all_remove, all_weaker, all_get, all_find, all_set, get_left, get_at, found_at}
 use Rattle.cd_ledger.proofs.Empty.{has_empty-push}
-use Rattle.cd_laws.specs.Right.{record_of, IsNamed, IsStepRight, AreStepsRight, IsRecordRight, AreRecordsRight, EndsRight, IsUnit, IsRight, RunsAreRight}
+use Rattle.cd_ledger.proofs.TidyItems.{item_candidate, task_items_all, input_items_all}
+use Rattle.cd_ledger.proofs.LeanLemmas.{lean, lean_short}
+use Rattle.cd_ledger.proofs.FewLemmas.{each_gathered, concluded_propositional}
+use Rattle.cd_laws.specs.Right.{record_of, IsNamed, IsStepRight, AreStepsRight, IsRecordRight, AreRecordsRight, EndsRight, IsRight, RunsAreRight}
 
 -- ---- what is right stays right as records come
 
 named_more : (me : ℕ) (before more : List Record) (n : Name) (r : Record) → IsNamed me before n r → IsNamed me (before ++ more) n r
 named_more me before more n r h = record { peer = h.peer; there = get_left before more n.seq r h.there }
 
-step_more : (p : Problem) (me : ℕ) (before more : List Record) (s : Step) (c : Clause) → IsStepRight p me before s c → IsStepRight p me (before ++ more) s c
-step_more p me before more (Input index) c h = h
-step_more p me before more (Resolve pos i neg j subst) c h = (h.0, h.1, named_more me before more pos h.0 h.2, named_more me before more neg h.1 h.3, h.4, h.5, h.6)
+step_more : (p : Problem) (me : ℕ) (before more : List Record) (current : Option Clause) (s : Step) (c : Clause) → IsStepRight p me before current s c → IsStepRight p me (before ++ more) current s c
+step_more p me before more current (Input index) c h = h
+step_more p me before more current (Resolve pos i neg j subst) c h = (h.0, h.1, named_more me before more pos h.0 h.2, named_more me before more neg h.1 h.3, h.4, h.5, h.6)
+step_more p me before more current Tidy c h = h
 
-steps_more : (p : Problem) (me : ℕ) (before more : List Record) (ss : List Step) (c : Clause) → AreStepsRight p me before ss c → AreStepsRight p me (before ++ more) ss c
-steps_more p me before more [] c h = absurd h
-steps_more p me before more (s ∷ []) c h = step_more p me before more s c h
-steps_more p me before more (s ∷ t ∷ ss) c h = absurd h
+steps_more : (p : Problem) (me : ℕ) (before more : List Record) (current : Option Clause) (ss : List Step) (c : Clause) → AreStepsRight p me before current ss c → AreStepsRight p me (before ++ more) current ss c
+steps_more p me before more current [] c h = h
+steps_more p me before more current (s ∷ ss) c h = (h.0, step_more p me before more current s h.0 h.1, steps_more p me before more (Some h.0) ss c h.2)
 
 records_push : (p : Problem) (me : ℕ) (before rs : List Record) (r : Record) → AreRecordsRight p me before rs → IsRecordRight p me (before ++ rs) r → AreRecordsRight p me before (rs ++ r ∷ [])
 records_push p me before [] r all here = (subst (λ (b : List Record). IsRecordRight p me b r) (append-nil before) here, tt)
@@ -88,82 +96,85 @@ found_named p me known n x all found =
 
 -- ---- conclusions are right
 
-pub each_gathered : (P : Conclusion → Type 0) (R : ℕ → List Conclusion → Type 0) (ks : List ℕ) (xs : List Conclusion) → ((k : ℕ) (part : List Conclusion) → R k part → AllByRecursion P part) → Gathered R ks xs → AllByRecursion P xs
-each_gathered P R [] xs each g = subst (AllByRecursion P) (sym g) tt
-each_gathered P R (k ∷ ks) xs each g = subst (AllByRecursion P) (sym g.4) (all_append P g.0 g.1 (each k g.0 g.2) (each_gathered P R ks g.1 each g.3))
+IsConclusionRight : Problem → ℕ → List Record → Conclusion → Type 0
+IsConclusionRight p me records c = IsStepRight p me records None c.step c.clause
 
--- a conclusion's step is right, and its clause a unit
-record IsConclusionRight (p : Problem) (me : ℕ) (records : List Record) (c : Conclusion) : Type 0 where
-  pub step : IsStepRight p me records c.step c.clause
-  pub unit : IsUnit c.clause
+usable_place : (c : Clause) (k : ℕ) (l : Literal) → IsUsable c → slice_get c.literals k ≡ Some l → k < 65536
+usable_place c k l usable there = omega (arith, slice_get_within c.literals k l there, lean_short c usable.propositional usable.lean)
 
-short_place : (ls : List Literal) (k : ℕ) (l : Literal) → slice_get ls k ≡ Some l → length ls ≤ 1 → k < 65536
-short_place ls k l there short = omega (arith, slice_get_within ls k l there)
-
-at_right : (p : Problem) (me : ℕ) (records : List Record) (m n : Name) (a b : Record) (i j : ℕ) (part : List Conclusion) → IsNamed me records m a → IsNamed me records n b → IsUnit a.clause → IsUnit b.clause
+at_right : (p : Problem) (me : ℕ) (records : List Record) (m n : Name) (a b : Record) (i j : ℕ) (part : List Conclusion) → IsNamed me records m a → IsNamed me records n b → IsUsable a.clause → IsUsable b.clause
     → ResolvesAt m a.clause n b.clause i j part → AllByRecursion (IsConclusionRight p me records) part
+unfolding IsConclusionRight
 at_right p me records m n a b i j part na nb ua ub (inl r) =
     let c = r.0.complementary in
-    let few : length (remove a.clause.literals i ++ remove b.clause.literals j) ≤ 1 =
-    omega (arith, length-append (remove a.clause.literals i) (remove b.clause.literals j), length_remove a.clause.literals i _ c.positive, length_remove b.clause.literals j _ c.negative, ua, ub) in
-    let here : IsConclusionRight p me records (record { step = Resolve m i n j []; clause = record { literals = remove a.clause.literals i ++ remove b.clause.literals j } }) = record {
-      step = (
-        a,
-        b,
-        na,
-        nb,
-        record { left = a.clause; right = b.clause; has_left = refl; has_right = refl; resolves = record { complementary = c; covers = refl; rest = refl } },
-        short_place a.clause.literals i _ c.positive ua,
-        short_place b.clause.literals j _ c.negative ub,
-      );
-      unit = few;
-    } in
-    subst (AllByRecursion (IsConclusionRight p me records)) (sym r.1) (here, tt)
-at_right p me records m n a b i j part na nb ua ub (inr r) = subst (AllByRecursion (IsConclusionRight p me records)) (sym r.1) tt
+    let here : IsStepRight p me records None (Resolve m i n j []) (resolvent_of a.clause i b.clause j) = (
+      a,
+      b,
+      na,
+      nb,
+      record { left = a.clause; right = b.clause; has_left = refl; has_right = refl; resolves = record { complementary = c; covers = refl; rest = refl } },
+      usable_place a.clause i _ ua c.positive,
+      usable_place b.clause j _ ub c.negative,
+    ) in
+    subst (λ (cs : List Conclusion). AllByRecursion (λ x. IsStepRight p me records None x.step x.clause) cs) (sym r.1) (here, tt)
+at_right p me records m n a b i j part na nb ua ub (inr r) = subst (λ (cs : List Conclusion). AllByRecursion (λ x. IsStepRight p me records None x.step x.clause) cs) (sym r.1) tt
 
-pair_right : (p : Problem) (me : ℕ) (records : List Record) (m n : Name) (a b : Record) (found : List Conclusion) → IsNamed me records m a → IsNamed me records n b → IsUnit a.clause → IsUnit b.clause
+pair_right : (p : Problem) (me : ℕ) (records : List Record) (m n : Name) (a b : Record) (found : List Conclusion) → IsNamed me records m a → IsNamed me records n b → IsUsable a.clause → IsUsable b.clause
     → PairConcludes m a.clause n b.clause found → AllByRecursion (IsConclusionRight p me records) found
 pair_right p me records m n a b found na nb ua ub g =
     each_gathered (IsConclusionRight p me records) (ResolvesFrom m a.clause n b.clause) (range_with_len 0 (length a.clause.literals)) found (λ i part r.
     each_gathered (IsConclusionRight p me records) (ResolvesAt m a.clause n b.clause i) (range_with_len 0 (length b.clause.literals)) part (λ j q s. at_right p me records m n a b i j q na nb ua ub s) r) g
 
-unit_at : (known : List Known) (n : Name) (x : Known) → AllByRecursion (λ r. IsUnit r.clause) (map record_of known) → look known n ≡ Some x → IsUnit x.entry.clause
-unit_at known n x all found =
-    let f = found_at (λ k. name_eq k.entry.name n) known x found in
-    let there : slice_get (map record_of known) f.place ≡ Some x.entry = slice_get-map record_of known f.place ∙ ap (option_map record_of) f.there in
-    all_get (λ (r : Record). IsUnit r.clause) (map record_of known) f.place x.entry all there
+usable_at : (known : List Known) (n : Name) (x : Known) → AllByRecursion (λ k. IsUsable k.entry.clause) known → look known n ≡ Some x → IsUsable x.entry.clause
+usable_at known n x all found = all_find (λ k. IsUsable k.entry.clause) (λ k. name_eq k.entry.name n) known x all found
 
-concluded_right : (p : Problem) (me : ℕ) (known : List Known) (t : Task) (found : List Conclusion) → AreRecordsRight p me [] (map record_of known) → AllByRecursion (λ r. IsUnit r.clause) (map record_of known)
+concluded_right : (p : Problem) (me : ℕ) (known : List Known) (t : Task) (found : List Conclusion) → AreRecordsRight p me [] (map record_of known) → AllByRecursion (λ k. IsUsable k.entry.clause) known
     → Concludes known t found → AllByRecursion (IsConclusionRight p me (map record_of known)) found
-concluded_right p me known (Solo a) found all units c = subst (AllByRecursion (IsConclusionRight p me (map record_of known))) (sym c.2) tt
-concluded_right p me known (Pair a b) found all units c =
+concluded_right p me known (Solo a) found all usable c = subst (AllByRecursion (IsConclusionRight p me (map record_of known))) (sym c.2) tt
+concluded_right p me known (Pair a b) found all usable c =
     pair_right p me (map record_of known) a b c.0.entry c.1.entry found (found_named p me known a c.0 all c.2) (found_named p me known b c.1 all c.3)
-    (unit_at known a c.0 units c.2) (unit_at known b c.1 units c.3) c.4
+    (usable_at known a c.0 usable c.2) (usable_at known b c.1 usable c.3) c.4
 
-items_right : (p : Problem) (me : ℕ) (records : List Record) (t : Task) (k : ℕ) (found : List Conclusion) → AllByRecursion (IsConclusionRight p me records) found → AllByRecursion (λ i. AreStepsRight p me records i.steps i.clause) (items_of t k found)
-items_right p me records t k [] all = tt
-items_right p me records t k (c ∷ cs) all = (all.0.step, items_right p me records t (k + 1) cs all.1)
+-- the steps of an item are right where its first is
+item_right : (p : Problem) (me : ℕ) (records : List Record) (o : Origin) (s : Step) (c : Clause) (item : Item) → IsStepRight p me records None s c → IsItemOf o s c item → AreStepsRight p me records None item.steps item.clause
+item_right p me records o s c item right (inl here) = subst (λ (i : Item). AreStepsRight p me records None i.steps i.clause) (sym here.1) (c, right, refl)
+item_right p me records o s c item right (inr other) =
+    subst (λ (i : Item). AreStepsRight p me records None i.steps i.clause) (sym other.1.2) (c, right, (other.1.0, other.1.1, refl))
 
-items_units : (p : Problem) (me : ℕ) (records : List Record) (t : Task) (k : ℕ) (found : List Conclusion) → AllByRecursion (IsConclusionRight p me records) found → AllByRecursion (λ i. IsUnit i.clause) (items_of t k found)
-items_units p me records t k [] all = tt
-items_units p me records t k (c ∷ cs) all = (all.0.unit, items_units p me records t (k + 1) cs all.1)
+items_right : (p : Problem) (me : ℕ) (records : List Record) (t : Task) (k : ℕ) (found : List Conclusion) (items : List Item) → AllByRecursion (IsConclusionRight p me records) found → AreTaskItems t k found items
+    → AllByRecursion (λ i. AreStepsRight p me records None i.steps i.clause) items
+unfolding IsConclusionRight
+items_right p me records t k found items all are =
+    task_items_all (λ c. IsStepRight p me records None c.step c.clause) (λ i. AreStepsRight p me records None i.steps i.clause) t k found items
+    (λ n c i right is. item_right p me records (origin.Task t n) c.step c.clause i right is) are all
+
+-- an item has the step that gives it, or that and Tidy
+item_few : (o : Origin) (s : Step) (c : Clause) (item : Item) → IsItemOf o s c item → length item.steps ≤ 2
+item_few o s c item (inl here) = omega (arith, ap (λ (i : Item). length i.steps) here.1)
+item_few o s c item (inr other) = omega (arith, ap (λ (i : Item). length i.steps) other.1.2)
+
+all_true : {A : Type 0} (xs : List A) → AllByRecursion (λ x. Unit {0}) xs
+all_true [] = tt
+all_true (x ∷ xs) = (tt, all_true xs)
 
 -- ---- the start
 
-inputs_right : (p : Problem) (me : ℕ) (front is : List ProblemInput) → p.inputs ≡ front ++ is → AllByRecursion (λ i. AreStepsRight p me [] i.steps i.clause) (items_from (length front) is)
-inputs_right p me front [] e = tt
-inputs_right p me front (i ∷ is) e =
+inputs_right : (p : Problem) (me : ℕ) (front is : List ProblemInput) (items : List Item) → p.inputs ≡ front ++ is → AreInputItems (length front) is items → AllByRecursion (λ i. AreStepsRight p me [] None i.steps i.clause) items
+inputs_right p me front [] items e are = subst (AllByRecursion (λ i. AreStepsRight p me [] None i.steps i.clause)) (sym are) tt
+inputs_right p me front (i ∷ is) items e are =
     let here : slice_get p.inputs (length front) ≡ Some i = ap (λ (l : List ProblemInput). slice_get l (length front)) e ∙ get_at front is i in
-    let n : length (front ++ i ∷ []) ≡ length front + 1 = length-append front (i ∷ []) in
-    ((i, here, refl), subst (λ (k : ℕ). AllByRecursion (λ x. AreStepsRight p me [] x.steps x.clause) (items_from k is)) n (inputs_right p me (front ++ i ∷ []) is (e ∙ sym (append_assoc front (i ∷ []) is))))
+    let n : length front + 1 ≡ length (front ++ i ∷ []) = sym (length-append front (i ∷ [])) in
+    let later = subst (λ (k : ℕ). AreInputItems k is are.1) n are.3 in
+    subst (AllByRecursion (λ x. AreStepsRight p me [] None x.steps x.clause)) (sym are.4) (
+      item_right p me [] (origin.Input (length front)) (Input (length front)) i.clause are.0 (i, here, refl) are.2,
+      inputs_right p me (front ++ i ∷ []) is are.1 (e ∙ sym (append_assoc front (i ∷ []) is)) later,
+    )
 
-inputs_units : (k : ℕ) (is : List ProblemInput) → AreUnits is → AllByRecursion (λ i. IsUnit i.clause) (items_from k is)
-inputs_units k [] all = tt
-inputs_units k (i ∷ is) all = (all.0, inputs_units (k + 1) is all.1)
-
-right_start : (p : Problem) (limits : Limits) → AreUnits p.inputs → IsRight p (start_local p limits)
-unfolding start_local
-right_start p limits units = record { counted = refl; known = tt; pending = inputs_right p 0 [] p.inputs refl; ends = refl; known_units = tt; pending_units = inputs_units 0 p.inputs units }
+right_start : (p : Problem) (limits : Limits) (s : Local) → ArePropositional p.inputs → IsStart p limits s → IsRight p s
+right_start p limits s all start =
+    let candidates = input_items_all (λ i. IsPropositional i.clause) (λ i. IsCandidate i.clause) 0 p.inputs start.items (λ n i item is of_. item_candidate (origin.Input n) (Input n) i.clause item of_ is) start.inputs all in
+    let few = input_items_all (λ i. Unit {0}) (λ i. length i.steps ≤ 2) 0 p.inputs start.items (λ n i item u of_. item_few (origin.Input n) (Input n) i.clause item of_) start.inputs (all_true p.inputs) in
+    subst (IsRight p) (sym start.state) (record { counted = refl; known = tt; pending = inputs_right p 0 [] p.inputs start.items refl start.inputs; ends = refl; usable = tt; candidates = candidates; few_steps = tt; few_pending = few })
 
 -- ---- events
 
@@ -183,51 +194,74 @@ ends_none : (v : Option Verdict) (known : List Known) → v ≡ None → has_emp
 ends_none None known is h = h
 ends_none (Some v) known is h = absurd cc
 
-right_kept : (p : Problem) (s : Local) (place : ℕ) (item : Item) → IsRight p s → s.verdict ≡ None → slice_get s.pending place ≡ Some item → IsRight p (kept s place item (Named (next_name s)))
-right_kept p s place item r running there =
+right_kept : (p : Problem) (s : Local) (place : ℕ) (item : Item) → IsRight p s → s.verdict ≡ None → slice_get s.pending place ≡ Some item → (IsTautology item.clause → ⊥) → IsRight p (kept s place item (Named (next_name s)))
+right_kept p s place item r running there open_ =
     let k = recorded_item (next_name s) item in
     let records = map record_of s.known in
     let pushed : map record_of (s.known ++ k ∷ []) ≡ records ++ k.entry ∷ [] = map_push s.known k in
-    let steps = all_get (λ (i : Item). AreStepsRight p s.me records i.steps i.clause) s.pending place item r.pending there in
-    let unit = all_get (λ (i : Item). IsUnit i.clause) s.pending place item r.pending_units there in
+    let steps = all_get (λ (i : Item). AreStepsRight p s.me records None i.steps i.clause) s.pending place item r.pending there in
+    let candidate = all_get (λ (i : Item). IsCandidate i.clause) s.pending place item r.candidates there in
+    let usable : IsUsable item.clause = record { propositional = candidate.propositional; lean = lean item.clause candidate.propositional candidate.no_repeat open_ } in
     let seq : s.next_seq ≡ length records = r.counted ∙ sym (length-map s.known record_of) in
     let here : IsRecordRight p s.me ([] ++ records) k.entry = record { name = ap (λ (n : ℕ). record { peer = s.me; seq = n }) seq; cites = refl; steps = steps } in
-    let left = all_remove (λ i. AreStepsRight p s.me records i.steps i.clause) s.pending place r.pending in
-    let more = all_weaker (λ i. AreStepsRight p s.me records i.steps i.clause) (λ i. AreStepsRight p s.me (records ++ k.entry ∷ []) i.steps i.clause) (remove s.pending place)
-    (λ i h. steps_more p s.me records (k.entry ∷ []) i.steps i.clause h) left in
+    let left = all_remove (λ i. AreStepsRight p s.me records None i.steps i.clause) s.pending place r.pending in
+    let more = all_weaker (λ i. AreStepsRight p s.me records None i.steps i.clause) (λ i. AreStepsRight p s.me (records ++ k.entry ∷ []) None i.steps i.clause) (remove s.pending place)
+    (λ i h. steps_more p s.me records (k.entry ∷ []) None i.steps i.clause h) left in
     record {
       counted = ap (λ (n : ℕ). n + 1) r.counted ∙ sym (length-append s.known (k ∷ []));
       known = subst (AreRecordsRight p s.me []) (sym pushed) (records_push p s.me [] records k.entry r.known here);
-      pending = subst (λ (rs : List Record). AllByRecursion (λ i. AreStepsRight p s.me rs i.steps i.clause) (remove s.pending place)) (sym pushed) more;
+      pending = subst (λ (rs : List Record). AllByRecursion (λ i. AreStepsRight p s.me rs None i.steps i.clause) (remove s.pending place)) (sym pushed) more;
       ends = ends_named (is_empty item.clause) s.known k (none_before s.verdict s.known running r.ends) refl;
-      known_units = subst (λ (rs : List Record). AllByRecursion (λ x. IsUnit x.clause) rs) (sym pushed) (all_append (λ x. IsUnit x.clause) records (k.entry ∷ []) r.known_units (unit, tt));
-      pending_units = all_remove (λ i. IsUnit i.clause) s.pending place r.pending_units;
+      usable = all_append (λ x. IsUsable x.entry.clause) s.known (k ∷ []) r.usable (usable, tt);
+      candidates = all_remove (λ i. IsCandidate i.clause) s.pending place r.candidates;
+      few_steps = all_append (λ x. length x.entry.steps ≤ 2) s.known (k ∷ []) r.few_steps (all_get (λ (i : Item). length i.steps ≤ 2) s.pending place item r.few_pending there, tt);
+      few_pending = all_remove (λ i. length i.steps ≤ 2) s.pending place r.few_pending;
     }
 
+right_dropped : (p : Problem) (s : Local) (place : ℕ) (item : Item) (outcome : Outcome) → IsRight p s → IsRight p (dropped s place item outcome)
+right_dropped p s place item outcome r = record {
+  counted = r.counted;
+  known = r.known;
+  pending = all_remove (λ i. AreStepsRight p s.me (map record_of s.known) None i.steps i.clause) s.pending place r.pending;
+  ends = r.ends;
+  usable = r.usable;
+  candidates = all_remove (λ i. IsCandidate i.clause) s.pending place r.candidates;
+  few_steps = r.few_steps;
+  few_pending = all_remove (λ i. length i.steps ≤ 2) s.pending place r.few_pending;
+}
+
 right_acted : (p : Problem) (s : Local) (act : Act) (found : Found act) → IsRight p s → s.verdict ≡ None → Fits s act found → IsRight p (acted s act found)
-right_acted p s (Keep place) (item, Named n) r running fits = subst (λ (m : Name). IsRight p (kept s place item (Named m))) (sym fits.1) (right_kept p s place item r running fits.0)
-right_acted p s (Work task) (others, found) r running fits =
+right_acted p s (Keep place) (item, Named n) r running fits =
+    subst (λ (m : Name). IsRight p (kept s place item (Named m))) (sym fits.1.2) (right_kept p s place item r running fits.0 fits.1.0)
+right_acted p s (Keep place) (item, Trivial) r running fits = right_dropped p s place item Trivial r
+right_acted p s (Keep place) (item, Subsumed n) r running fits = right_dropped p s place item (Subsumed n) r
+right_acted p s (Work task) y r running fits =
     let records = map record_of s.known in
-    let right = concluded_right p s.me s.known task found r.known r.known_units fits.2 in
+    let right = concluded_right p s.me s.known task y.found r.known r.usable fits.1.concludes in
+    let candidates = task_items_all (λ c. IsPropositional c.clause) (λ i. IsCandidate i.clause) task 0 y.found y.items (λ n c i is of_. item_candidate (origin.Task task n) c.step c.clause i of_ is) fits.1.items
+    (concluded_propositional s.known task y.found r.usable fits.1.concludes) in
     record {
       counted = r.counted;
       known = r.known;
       ends = r.ends;
-      known_units = r.known_units;
-      pending = all_append (λ i. AreStepsRight p s.me records i.steps i.clause) s.pending (items_of task 0 found) r.pending (items_right p s.me records task 0 found right);
-      pending_units = all_append (λ i. IsUnit i.clause) s.pending (items_of task 0 found) r.pending_units (items_units p s.me records task 0 found right);
+      usable = r.usable;
+      pending = all_append (λ i. AreStepsRight p s.me records None i.steps i.clause) s.pending y.items r.pending (items_right p s.me records task 0 y.found y.items right fits.1.items);
+      candidates = all_append (λ i. IsCandidate i.clause) s.pending y.items r.candidates candidates;
+      few_steps = r.few_steps;
+      few_pending = all_append (λ i. length i.steps ≤ 2) s.pending y.items r.few_pending
+          (task_items_all (λ c. Unit {0}) (λ i. length i.steps ≤ 2) task 0 y.found y.items (λ n c i u of_. item_few (origin.Task task n) c.step c.clause i of_) fits.1.items (all_true y.found));
     }
 right_acted p s Declare found r running fits =
-    record { counted = r.counted; known = r.known; pending = r.pending; ends = none_before s.verdict s.known running r.ends; known_units = r.known_units; pending_units = r.pending_units }
+    record { counted = r.counted; known = r.known; pending = r.pending; ends = none_before s.verdict s.known running r.ends; usable = r.usable; candidates = r.candidates; few_steps = r.few_steps; few_pending = r.few_pending }
 right_acted p s (End Refuted) found r running fits = absurd fits
 right_acted p s (End Saturated) found r running fits = absurd fits
 right_acted p s (End Spent) found r running fits =
-    record { counted = r.counted; known = r.known; pending = r.pending; ends = none_before s.verdict s.known running r.ends; known_units = r.known_units; pending_units = r.pending_units }
+    record { counted = r.counted; known = r.known; pending = r.pending; ends = none_before s.verdict s.known running r.ends; usable = r.usable; candidates = r.candidates; few_steps = r.few_steps; few_pending = r.few_pending }
 
 right_after : (p : Problem) (s : Local) (e : Event) (found : Found e.act) → IsRight p s → s.verdict ≡ None → Fits s e.act found → IsRight p (after s e found)
 right_after p s e found r running fits =
     let a = right_acted p s e.act found r running fits in
-    record { counted = a.counted; known = a.known; pending = a.pending; ends = a.ends; known_units = a.known_units; pending_units = a.pending_units }
+    record { counted = a.counted; known = a.known; pending = a.pending; ends = a.ends; usable = a.usable; candidates = a.candidates; few_steps = a.few_steps; few_pending = a.few_pending }
 
 -- ---- runs
 
@@ -242,5 +276,7 @@ run_right p w v [] all run = subst (λ (x : World). AllByRecursion (IsRight p) x
 run_right p w v (e ∷ es) all run = run_right p run.0 v es (step_right p w run.0 e all run.1) run.2
 
 pub runs_are_right : RunsAreRight
-unfolding start_world
-runs_are_right p limits es w units run = run_right p (start_world p limits) w es (right_start p limits units, tt) run
+runs_are_right p limits es w all runs =
+    let start : AllByRecursion (IsRight p) runs.first.locals =
+    subst (λ (v : World). AllByRecursion (IsRight p) v.locals) (sym runs.starts.alone) (right_start p limits runs.starts.local all runs.starts.starts, tt) in
+    run_right p runs.first w es start runs.run

@@ -2,7 +2,7 @@
 use Rattle.std.proofs.Common.{◌≡◌, ℕ, inl, inr, List, [], ◌∷◌, ◌++◌, length, sym, ap, ◌∙◌, subst}
 use Rattle.std.specs.List.{range_with_len}
 use Rattle.cd_clause.specs.declared.Clause.{Clause}
-use Rattle.cd_steps.specs.declared.Name.{Name}
+use Rattle.cd_names.specs.declared.names.Name.{Name}
 use Rattle.cd_infer.specs.declared.Conclusion.{Conclusion}
 use Rattle.cd_infer.specs.Gathered.{Gathered}
 use Rattle.cd_infer.specs.Conclusions.{ResolvesAt, ResolvesFrom, PairConcludes}

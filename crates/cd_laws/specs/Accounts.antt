@@ -1,21 +1,31 @@
 -- Every inference between live clauses is accounted for.
-use Rattle.std.specs.Prelude.{◌≡◌, ◌⊎◌, ℕ, ◌+◌, Bool, false, ◌&&◌, ◌==◌, if◌then◌else◌, List, [], ◌∷◌, length, Some, slice_get, IsTrue}
+use Rattle.std.specs.Prelude.{◌≡◌, ◌⊎◌, ℕ, ◌+◌, Bool, false, ◌&&◌, ◌==◌, List, [], ◌∷◌, length, Option, None, Some, slice_get, IsTrue}
 use Rattle.std.specs.List.{AllByRecursion}
-use Rattle.cd_steps.specs.declared.Name.{Name}
+use Rattle.cd_clause.specs.declared.Clause.{Clause}
+use Rattle.cd_clause.specs.Clauses.{IsTautology}
+use Rattle.cd_names.specs.declared.names.Name.{Name}
 use Rattle.cd_steps.specs.declared.Step.{Step}
+use Rattle.cd_steps.specs.declared.Step.TheVariants.{Input, Resolve, Tidy}
+use Rattle.cd_steps.specs.Steps.{StepOk}
 use Rattle.cd_infer.specs.declared.Conclusion.{Conclusion}
 use Rattle.cd_read.specs.declared.problem.Problem.{Problem}
+use Rattle.cd_read.specs.declared.problem.Input.{Input as ProblemInput}
 use Rattle.cd_ledger.specs.declared.Event.{Event}
+use Rattle.cd_ledger.specs.declared.Item.{Item}
 use Rattle.cd_ledger.specs.declared.Known.{Known}
 use Rattle.cd_ledger.specs.declared.Limits.{Limits}
 use Rattle.cd_ledger.specs.declared.Local.{Local}
 use Rattle.cd_ledger.specs.declared.Origin.{Origin}
 use Rattle.cd_ledger.specs.declared.Origin.TheVariants as origin
+use Rattle.cd_ledger.specs.declared.Outcome.{Outcome}
+use Rattle.cd_ledger.specs.declared.Outcome.TheVariants.{Named, Trivial, Subsumed}
+use Rattle.cd_ledger.specs.declared.Settled.{Settled}
 use Rattle.cd_ledger.specs.declared.Task.{Task}
 use Rattle.cd_ledger.specs.declared.Task.TheVariants.{Solo, Pair}
 use Rattle.cd_ledger.specs.Names.{name_eq, look}
-use Rattle.cd_ledger.specs.Machine.{Concludes}
-use Rattle.cd_ledger.specs.World.{World, Run, start_world}
+use Rattle.cd_ledger.specs.Counts.{tally}
+use Rattle.cd_ledger.specs.Machine.{Concludes, Subsumes}
+use Rattle.cd_ledger.specs.World.{World, Runs}
 use Rattle.cd_laws.specs.Models.{is_live_at}
 
 abbrev pub task_eq : Task → Task → Bool
@@ -23,11 +33,6 @@ task_eq (Solo a) (Solo b) = name_eq a b
 task_eq (Solo a) (Pair b c) = false
 task_eq (Pair a b) (Solo c) = false
 task_eq (Pair a b) (Pair c d) = name_eq a c && name_eq b d
-
--- how many items pass a test
-abbrev pub tally : {X : Type 0} → (X → Bool) → List X → ℕ
-tally {X} test [] = 0
-tally {X} test (x ∷ xs) = (if test x then 1 else 0) + tally test xs
 
 abbrev pub owed_times : Task → Local → ℕ
 owed_times t s = tally (task_eq t) s.owed
@@ -44,22 +49,56 @@ abbrev pub BeginsWith : Step → List Step → Type 0
 BeginsWith s [] = ⊥
 BeginsWith s (t ∷ ts) = t ≡ s
 
--- the conclusion with number k is exactly one pending item or settled entry, whose steps begin with the conclusion's
-pub record IsConclusionKept (s : Local) (t : Task) (k : ℕ) (c : Conclusion) : Type 0 where
+-- a step is right with the clauses that are known under its names, and the clause before it
+abbrev pub IsReplayed : Problem → List Known → Option Clause → Step → Clause → Type 0
+IsReplayed p known current (Input index) c = (i : ProblemInput) × (slice_get p.inputs index ≡ Some i) × StepOk (Input index) None (Some i.clause) None c
+IsReplayed p known current (Resolve pos i neg j subst) c =
+    (x : Known) × (y : Known) × (look known pos ≡ Some x) × (look known neg ≡ Some y) × StepOk (Resolve pos i neg j subst) None (Some x.entry.clause) (Some y.entry.clause) c
+IsReplayed p known current Tidy c = StepOk Tidy current None None c
+
+-- the steps lead to the clause
+abbrev pub Lead : Problem → List Known → Option Clause → List Step → Clause → Type 0
+Lead p known current [] c = current ≡ Some c
+Lead p known current (s ∷ ss) c = (d : Clause) × IsReplayed p known current s d × Lead p known (Some d) ss c
+
+-- the outcome is that of a clause: it is the named record's, or a tautology, or all literals of the named record's clause occur in it
+abbrev pub OutcomeHolds : List Known → Clause → Outcome → Type 0
+OutcomeHolds known c (Named n) = (x : Known) × (look known n ≡ Some x) × (x.entry.clause ≡ c)
+OutcomeHolds known c Trivial = IsTautology c
+OutcomeHolds known c (Subsumed n) = (x : Known) × (look known n ≡ Some x) × Subsumes x.entry.clause c
+
+-- the steps of an entry lead to a clause of which its outcome holds
+pub record IsEntryRight (p : Problem) (known : List Known) (e : Settled) : Type 0 where
+  pub clause : Clause
+  pub leads : Lead p known None e.steps clause
+  pub outcome : OutcomeHolds known clause e.outcome
+
+-- the item goes on from the conclusion's step, and its steps lead to its clause
+pub record IsItemKept (p : Problem) (known : List Known) (c : Conclusion) (i : Item) : Type 0 where
+  pub begins : BeginsWith c.step i.steps
+  pub leads : Lead p known None i.steps i.clause
+
+-- the entry goes on from the conclusion's step, and is right
+pub record IsEntryKept (p : Problem) (known : List Known) (c : Conclusion) (e : Settled) : Type 0 where
+  pub begins : BeginsWith c.step e.steps
+  pub right : IsEntryRight p known e
+
+-- the conclusion with number k is exactly one pending item or settled entry
+pub record IsConclusionKept (p : Problem) (s : Local) (t : Task) (k : ℕ) (c : Conclusion) : Type 0 where
   pub once : tally (λ i. is_conclusion t k i.origin) s.pending + tally (λ e. is_conclusion t k e.origin) s.settled ≡ 1
-  pub pending : AllByRecursion (λ i. IsTrue (is_conclusion t k i.origin) → BeginsWith c.step i.steps) s.pending
-  pub settled : AllByRecursion (λ e. IsTrue (is_conclusion t k e.origin) → BeginsWith c.step e.steps) s.settled
+  pub pending : AllByRecursion (λ i. IsTrue (is_conclusion t k i.origin) → IsItemKept p s.known c i) s.pending
+  pub settled : AllByRecursion (λ e. IsTrue (is_conclusion t k e.origin) → IsEntryKept p s.known c e) s.settled
 
 -- the task was done: its entry has the number of its conclusions, and each conclusion is kept
-pub record IsTaskDone (s : Local) (t : Task) : Type 0 where
+pub record IsTaskDone (p : Problem) (s : Local) (t : Task) : Type 0 where
   pub found : List Conclusion
   pub concludes : Concludes s.known t found
   pub counted : AllByRecursion (λ d. IsTrue (task_eq t d.task) → d.conclusions ≡ length found) s.done
-  pub kept : (k : ℕ) (c : Conclusion) → slice_get found k ≡ Some c → IsConclusionKept s t k c
+  pub kept : (k : ℕ) (c : Conclusion) → slice_get found k ≡ Some c → IsConclusionKept p s t k c
 
 -- the task is owed once and isn't done, or is done once and isn't owed
-abbrev pub IsAccounted : Local → Task → Type 0
-IsAccounted s t = ((owed_times t s ≡ 1) × (done_times t s ≡ 0)) ⊎ ((owed_times t s ≡ 0) × (done_times t s ≡ 1) × IsTaskDone s t)
+abbrev pub IsAccounted : Problem → Local → Task → Type 0
+IsAccounted p s t = ((owed_times t s ≡ 1) × (done_times t s ≡ 0)) ⊎ ((owed_times t s ≡ 0) × (done_times t s ≡ 1) × IsTaskDone p s t)
 
 -- the name is known here, and live
 pub record IsLiveName (s : Local) (n : Name) : Type 0 where
@@ -68,10 +107,10 @@ pub record IsLiveName (s : Local) (n : Name) : Type 0 where
   pub live : IsTrue (is_live_at s.me entry)
 
 -- each task of live names
-pub record AreAccounted (s : Local) : Type 0 where
-  pub solo : (a : Name) → IsLiveName s a → IsAccounted s (Solo a)
-  pub pair : (a b : Name) → IsLiveName s a → IsLiveName s b → IsAccounted s (Pair a b)
+pub record AreAccounted (p : Problem) (s : Local) : Type 0 where
+  pub solo : (a : Name) → IsLiveName s a → IsAccounted p s (Solo a)
+  pub pair : (a b : Name) → IsLiveName s a → IsLiveName s b → IsAccounted p s (Pair a b)
 
 -- in every run, at every moment, at each peer: so far there is one, which owns every name
 abbrev pub RunsAreAccounted : Type 0
-RunsAreAccounted = (p : Problem) (limits : Limits) (events : List Event) (w : World) → Run (start_world p limits) events w → AllByRecursion AreAccounted w.locals
+RunsAreAccounted = (p : Problem) (limits : Limits) (events : List Event) (w : World) → Runs p limits events w → AllByRecursion (AreAccounted p) w.locals

@@ -6,7 +6,7 @@ use Rattle.cd_read.specs.Problems.{ClauseFormed, IsFormed}
 use Rattle.cd_ledger.specs.declared.Event.{Event}
 use Rattle.cd_ledger.specs.declared.Limits.{Limits}
 use Rattle.cd_ledger.specs.declared.Local.{Local}
-use Rattle.cd_ledger.specs.World.{World, Run, start_world}
+use Rattle.cd_ledger.specs.World.{World, Runs}
 
 pub record HasFormed (p : Problem) (s : Local) : Type 0 where
   pub known : AllByRecursion (λ k. ClauseFormed p.symbols k.entry.clause) s.known
@@ -14,4 +14,4 @@ pub record HasFormed (p : Problem) (s : Local) : Type 0 where
 
 -- in every run from the start of a formed problem, at every moment
 abbrev pub RunsHaveFormed : Type 0
-RunsHaveFormed = (p : Problem) (limits : Limits) (events : List Event) (w : World) → IsFormed p → Run (start_world p limits) events w → AllByRecursion (HasFormed p) w.locals
+RunsHaveFormed = (p : Problem) (limits : Limits) (events : List Event) (w : World) → IsFormed p → Runs p limits events w → AllByRecursion (HasFormed p) w.locals

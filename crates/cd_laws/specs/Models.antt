@@ -2,7 +2,7 @@
 use Rattle.std.specs.Prelude.{◌↔◌, ℕ, Bool, true, ◌&&◌, ◌==◌, List, ◌++◌, map, filter}
 use Rattle.std.specs.List.{flat_map}
 use Rattle.cd_clause.specs.declared.Clause.{Clause}
-use Rattle.cd_clause.specs.Truth.{Interp, Models}
+use Rattle.cd_clause.specs.Truth.{Interp, IsInterp, Models}
 use Rattle.cd_read.specs.declared.problem.Problem.{Problem}
 use Rattle.cd_ledger.specs.declared.Event.{Event}
 use Rattle.cd_ledger.specs.declared.Known.{Known}
@@ -10,7 +10,7 @@ use Rattle.cd_ledger.specs.declared.Limits.{Limits}
 use Rattle.cd_ledger.specs.declared.Local.{Local}
 use Rattle.cd_ledger.specs.declared.Status.{Status}
 use Rattle.cd_ledger.specs.declared.Status.TheVariants.{Held}
-use Rattle.cd_ledger.specs.World.{World, Run, IsClosed, start_world}
+use Rattle.cd_ledger.specs.World.{World, Runs, IsClosed}
 use Rattle.cd_laws.specs.Right.{records_of}
 
 abbrev pub is_held : Status → Bool
@@ -31,13 +31,13 @@ carried_by s = map clause_of (filter (is_live_at s.me) s.known) ++ map (λ i. i.
 abbrev pub carried : World → List Clause
 carried w = flat_map carried_by w.locals
 
--- two lists of clauses hold in the same interpretations
+-- two lists of clauses hold in the same finite interpretations
 abbrev pub HaveSameModels : List Clause → List Clause → Type 0
-HaveSameModels cs ds = (interp : Interp) → Models interp cs ↔ Models interp ds
+HaveSameModels cs ds = (interp : Interp) → IsInterp interp → Models interp cs ↔ Models interp ds
 
 -- in every run, at every moment
 abbrev pub RunsKeepModels : Type 0
-RunsKeepModels = (p : Problem) (limits : Limits) (events : List Event) (w : World) → Run (start_world p limits) events w → HaveSameModels (carried w) (map (λ i. i.clause) p.inputs)
+RunsKeepModels = (p : Problem) (limits : Limits) (events : List Event) (w : World) → Runs p limits events w → HaveSameModels (carried w) (map (λ i. i.clause) p.inputs)
 
 -- the clauses of a peer's records
 abbrev pub recorded_clauses : Local → List Clause
@@ -45,4 +45,4 @@ recorded_clauses s = map (λ r. r.clause) (records_of s)
 
 -- where a run ends closed, the recorded clauses alone
 abbrev pub ClosedRunsKeepModels : Type 0
-ClosedRunsKeepModels = (p : Problem) (limits : Limits) (events : List Event) (w : World) → Run (start_world p limits) events w → IsClosed w → HaveSameModels (flat_map recorded_clauses w.locals) (map (λ i. i.clause) p.inputs)
+ClosedRunsKeepModels = (p : Problem) (limits : Limits) (events : List Event) (w : World) → Runs p limits events w → IsClosed w → HaveSameModels (flat_map recorded_clauses w.locals) (map (λ i. i.clause) p.inputs)

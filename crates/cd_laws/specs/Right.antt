@@ -2,13 +2,13 @@
 use Rattle.std.specs.Prelude.{◌≡◌, ℕ, ◌<◌, ◌≤◌, true, false, List, [], ◌∷◌, ◌++◌, length, map, Option, None, Some, slice_get}
 use Rattle.std.specs.List.{AllByRecursion}
 use Rattle.cd_clause.specs.declared.Clause.{Clause}
-use Rattle.cd_steps.specs.declared.Name.{Name}
+use Rattle.cd_names.specs.declared.names.Name.{Name}
 use Rattle.cd_steps.specs.declared.Step.{Step}
-use Rattle.cd_steps.specs.declared.Step.TheVariants.{Input, Resolve}
+use Rattle.cd_steps.specs.declared.Step.TheVariants.{Input, Resolve, Tidy}
 use Rattle.cd_steps.specs.Steps.{StepOk}
 use Rattle.cd_read.specs.declared.problem.Problem.{Problem}
 use Rattle.cd_read.specs.declared.problem.Input.{Input as ProblemInput}
-use Rattle.cd_read.specs.Problems.{AreUnits}
+use Rattle.cd_read.specs.Problems.{ArePropositional}
 use Rattle.cd_ledger.specs.declared.Event.{Event}
 use Rattle.cd_ledger.specs.declared.Known.{Known}
 use Rattle.cd_ledger.specs.declared.Limits.{Limits}
@@ -17,8 +17,9 @@ use Rattle.cd_ledger.specs.declared.Record.{Record}
 use Rattle.cd_ledger.specs.declared.Verdict.{Verdict}
 use Rattle.cd_ledger.specs.declared.Verdict.TheVariants.{Refuted, Saturated, Spent}
 use Rattle.cd_ledger.specs.Names.{cites_of}
+use Rattle.cd_ledger.specs.Lean.{IsCandidate, IsUsable}
 use Rattle.cd_ledger.specs.Machine.{is_empty}
-use Rattle.cd_ledger.specs.World.{World, Run, start_world, has_empty}
+use Rattle.cd_ledger.specs.World.{World, Runs, has_empty}
 
 abbrev pub record_of : Known → Record
 record_of k = k.entry
@@ -32,23 +33,23 @@ pub record IsNamed (me : ℕ) (before : List Record) (n : Name) (r : Record) : T
   pub peer : n.peer ≡ me
   pub there : slice_get before n.seq ≡ Some r
 
--- a step is right over the inputs and these records, and gives the clause
-abbrev pub IsStepRight : Problem → ℕ → List Record → Step → Clause → Type 0
-IsStepRight p me before (Input index) c = (i : ProblemInput) × (slice_get p.inputs index ≡ Some i) × StepOk (Input index) None (Some i.clause) None c
-IsStepRight p me before (Resolve pos i neg j subst) c =
+-- a step is right over the inputs, these records and the clause before it, and gives the clause
+abbrev pub IsStepRight : Problem → ℕ → List Record → Option Clause → Step → Clause → Type 0
+IsStepRight p me before current (Input index) c = (i : ProblemInput) × (slice_get p.inputs index ≡ Some i) × StepOk (Input index) None (Some i.clause) None c
+IsStepRight p me before current (Resolve pos i neg j subst) c =
     (a : Record) × (b : Record) × IsNamed me before pos a × IsNamed me before neg b × StepOk (Resolve pos i neg j subst) None (Some a.clause) (Some b.clause) c × (i < 65536) × (j < 65536)
+IsStepRight p me before current Tidy c = StepOk Tidy current None None c
 
--- so far the steps to a clause are one
-abbrev pub AreStepsRight : Problem → ℕ → List Record → List Step → Clause → Type 0
-AreStepsRight p me before [] c = ⊥
-AreStepsRight p me before (s ∷ []) c = IsStepRight p me before s c
-AreStepsRight p me before (s ∷ t ∷ ss) c = ⊥
+-- the steps are right one after another, behind the clause before them, and lead to the clause
+abbrev pub AreStepsRight : Problem → ℕ → List Record → Option Clause → List Step → Clause → Type 0
+AreStepsRight p me before current [] c = current ≡ Some c
+AreStepsRight p me before current (s ∷ ss) c = (d : Clause) × IsStepRight p me before current s d × AreStepsRight p me before (Some d) ss c
 
 -- a record behind the earlier ones: its name is its place, it cites what its steps name, and its steps are right
 pub record IsRecordRight (p : Problem) (me : ℕ) (before : List Record) (r : Record) : Type 0 where
   pub name : r.name ≡ record { peer = me; seq = length before }
   pub cites : r.cites ≡ cites_of r.steps
-  pub steps : AreStepsRight p me before r.steps r.clause
+  pub steps : AreStepsRight p me before None r.steps r.clause
 
 abbrev pub AreRecordsRight : Problem → ℕ → List Record → List Record → Type 0
 AreRecordsRight p me before [] = Unit {0}
@@ -61,19 +62,17 @@ EndsRight (Some Refuted) known = (front : List Known) × (last : Known) × (know
 EndsRight (Some Saturated) known = has_empty known ≡ false
 EndsRight (Some Spent) known = has_empty known ≡ false
 
--- a clause with one literal at most
-abbrev pub IsUnit : Clause → Type 0
-IsUnit c = length c.literals ≤ 1
-
 -- a state whose records and pending items are right
 pub record IsRight (p : Problem) (s : Local) : Type 0 where
   pub counted : s.next_seq ≡ length s.known
   pub known : AreRecordsRight p s.me [] (records_of s)
-  pub pending : AllByRecursion (λ i. AreStepsRight p s.me (records_of s) i.steps i.clause) s.pending
+  pub pending : AllByRecursion (λ i. AreStepsRight p s.me (records_of s) None i.steps i.clause) s.pending
   pub ends : EndsRight s.verdict s.known
-  pub known_units : AllByRecursion (λ r. IsUnit r.clause) (records_of s)
-  pub pending_units : AllByRecursion (λ i. IsUnit i.clause) s.pending
+  pub usable : AllByRecursion (λ k. IsUsable k.entry.clause) s.known
+  pub candidates : AllByRecursion (λ i. IsCandidate i.clause) s.pending
+  pub few_steps : AllByRecursion (λ k. length k.entry.steps ≤ 2) s.known
+  pub few_pending : AllByRecursion (λ i. length i.steps ≤ 2) s.pending
 
--- in every run from the start of a problem of unit clauses, at every moment, each peer's state is right
+-- in every run from the start of a propositional problem, at every moment, each peer's state is right
 abbrev pub RunsAreRight : Type 0
-RunsAreRight = (p : Problem) (limits : Limits) (events : List Event) (w : World) → AreUnits p.inputs → Run (start_world p limits) events w → AllByRecursion (IsRight p) w.locals
+RunsAreRight = (p : Problem) (limits : Limits) (events : List Event) (w : World) → ArePropositional p.inputs → Runs p limits events w → AllByRecursion (IsRight p) w.locals

@@ -1,3 +1,5 @@
+pub mod Counts
+pub mod Lean
 pub mod Names
 pub mod Machine
 pub mod World

@@ -1,8 +1,12 @@
 -- The machine of one peer: the start, the events that are legal, and what each changes.
-use Rattle.std.specs.Prelude.{◌≡◌, ◌≢◌, ℕ, ◌+◌, ◌-◌, ◌^◌, ◌<◌, nat_le, min, Bool, true, false, if◌then◌else◌, List, [], ◌∷◌, ◌++◌, length, map, remove, Option, None, Some, slice_get}
+use Rattle.std.specs.Prelude.{◌≡◌, ◌≢◌, ◌⊎◌, ℕ, ◌+◌, ◌-◌, ◌^◌, ◌<◌, nat_le, min, Bool, true, false, if◌then◌else◌, List, [], ◌∷◌, ◌++◌, length, map, remove, None, Some, slice_get}
+use Rattle.std.specs.List.{AllByRecursion}
 use Rattle.cd_clause.specs.declared.Literal.{Literal}
 use Rattle.cd_clause.specs.declared.Clause.{Clause}
-use Rattle.cd_steps.specs.declared.Name.{Name}
+use Rattle.cd_clause.specs.Clauses.{Among, IsTidied, IsTautology}
+use Rattle.cd_names.specs.declared.names.Name.{Name}
+use Rattle.cd_steps.specs.declared.Step.{Step}
+use Rattle.cd_steps.specs.declared.Step.TheVariants.{Tidy}
 use Rattle.cd_steps.specs.declared.Step.TheVariants as step
 use Rattle.cd_infer.specs.declared.Conclusion.{Conclusion}
 use Rattle.cd_infer.specs.Conclusions.{SoloConcludes, PairConcludes}
@@ -10,13 +14,14 @@ use Rattle.cd_read.specs.declared.problem.Problem.{Problem}
 use Rattle.cd_read.specs.declared.problem.Input.{Input}
 use Rattle.cd_ledger.specs.declared.Task.{Task}
 use Rattle.cd_ledger.specs.declared.Task.TheVariants.{Solo, Pair}
+use Rattle.cd_ledger.specs.declared.Origin.{Origin}
 use Rattle.cd_ledger.specs.declared.Origin.TheVariants as origin
 use Rattle.cd_ledger.specs.declared.Item.{Item}
 use Rattle.cd_ledger.specs.declared.Known.{Known}
 use Rattle.cd_ledger.specs.declared.Status.TheVariants.{Held}
 use Rattle.cd_ledger.specs.declared.Outcome.{Outcome}
 use Rattle.cd_ledger.specs.declared.Settled.{Settled}
-use Rattle.cd_ledger.specs.declared.Outcome.TheVariants.{Named}
+use Rattle.cd_ledger.specs.declared.Outcome.TheVariants.{Named, Trivial, Subsumed}
 use Rattle.cd_ledger.specs.declared.Verdict.{Verdict}
 use Rattle.cd_ledger.specs.declared.Verdict.TheVariants.{Refuted, Saturated, Spent}
 use Rattle.cd_ledger.specs.declared.Act.{Act}
@@ -36,18 +41,25 @@ is_empty c = no_literals c.literals
 
 -- ---- the start
 
--- inputs from index k on, each with the step that takes it
-abbrev pub items_from : ℕ → List Input → List Item
-items_from k [] = []
-items_from k (i ∷ is) = record { origin = origin.Input k; steps = step.Input k ∷ []; clause = i.clause } ∷ items_from (k + 1) is
+-- the item of a step that gives a clause: the step, and Tidy behind it where the clause isn't tidy
+abbrev pub IsItemOf : Origin → Step → Clause → Item → Type 0
+IsItemOf o s c item =
+    (IsTidied c c × (item ≡ record { origin = o; steps = s ∷ []; clause = c }))
+    ⊎ ((¬ IsTidied c c) × ((d : Clause) × IsTidied c d × (item ≡ record { origin = o; steps = s ∷ Tidy ∷ []; clause = d })))
 
--- all inputs are pending, in their order
-unfoldable pub start_local : Problem → Limits → Local
-start_local p limits = record {
+-- inputs from index k on, each as an item with the step that takes it
+abbrev pub AreInputItems : ℕ → List Input → List Item → Type 0
+AreInputItems k [] items = items ≡ []
+AreInputItems k (i ∷ is) items =
+    (item : Item) × (others : List Item) × IsItemOf (origin.Input k) (step.Input k) i.clause item × AreInputItems (k + 1) is others × (items ≡ item ∷ others)
+
+-- these items are pending, and nothing else is there
+abbrev pub waiting : Limits → List Item → Local
+waiting limits items = record {
   me = 0;
   limits = limits;
   known = [];
-  pending = items_from 0 p.inputs;
+  pending = items;
   settled = [];
   owed = [];
   done = [];
@@ -58,14 +70,41 @@ start_local p limits = record {
   journal = [];
 }
 
+-- all inputs are pending, in their order
+pub record IsStart (p : Problem) (limits : Limits) (s : Local) : Type 0 where
+  pub items : List Item
+  pub inputs : AreInputItems 0 p.inputs items
+  pub state : s ≡ waiting limits items
+
 -- ---- keeping an item
 
 abbrev pub next_name : Local → Name
 next_name s = record { peer = s.me; seq = s.next_seq }
 
--- what becomes of an item: so far every item is named
+-- each literal of the first clause occurs in the second
+abbrev pub Subsumes : Clause → Clause → Type 0
+Subsumes d c = AllByRecursion (λ l. Among (λ m. l ≡ m) c.literals) d.literals
+
+-- a known clause that is held and subsumes the clause
+abbrev pub IsSubsumer : Clause → Known → Type 0
+IsSubsumer c k = (k.status ≡ Held) × Subsumes k.entry.clause c
+
+-- the first known clause that subsumes the clause, in the order in which they became known
+pub record IsFirstSubsumer (known : List Known) (c : Clause) (k : Known) : Type 0 where
+  pub front : List Known
+  pub back : List Known
+  pub split : known ≡ front ++ k ∷ back
+  pub subsumes : IsSubsumer c k
+  pub first : AllByRecursion (λ x. ¬ IsSubsumer c x) front
+
+-- what becomes of a clause, where this is the next name: a tautology goes, and so does what a held clause subsumes; every other is named
+abbrev pub IsOutcome : List Known → Name → Clause → Outcome → Type 0
+IsOutcome known next c (Named n) = (¬ IsTautology c) × AllByRecursion (λ k. ¬ IsSubsumer c k) known × (n ≡ next)
+IsOutcome known next c Trivial = IsTautology c
+IsOutcome known next c (Subsumed n) = (¬ IsTautology c) × ((k : Known) × IsFirstSubsumer known c k × (n ≡ k.entry.name))
+
 abbrev pub OutcomeFits : Local → Item → Outcome → Type 0
-OutcomeFits s item (Named n) = n ≡ next_name s
+OutcomeFits s item outcome = IsOutcome s.known (next_name s) item.clause outcome
 
 abbrev pub name_of : Known → Name
 name_of k = k.entry.name
@@ -80,7 +119,11 @@ recorded_item n item = record { entry = record { name = n; owner = n.peer; claus
 abbrev pub settlement : Item → Outcome → Settled
 settlement item outcome = record { origin = item.origin; steps = item.steps; outcome = outcome }
 
--- an item is taken out and settled. A named one is known and held, and its tasks are owed behind the others; the empty clause refutes
+-- an item is taken out and settled
+abbrev pub dropped : Local → ℕ → Item → Outcome → Local
+dropped s place item outcome = record s { pending = remove s.pending place; settled = s.settled ++ settlement item outcome ∷ [] }
+
+-- a named one is known and held, and its tasks are owed behind the others; the empty clause refutes. Of another nothing else stays
 abbrev pub kept : Local → ℕ → Item → Outcome → Local
 kept s place item (Named n) =
     record s {
@@ -91,6 +134,8 @@ kept s place item (Named n) =
       next_seq = s.next_seq + 1;
       verdict = if is_empty item.clause then Some Refuted else None;
     }
+kept s place item Trivial = dropped s place item Trivial
+kept s place item (Subsumed n) = dropped s place item (Subsumed n)
 
 -- ---- doing a task
 
@@ -105,17 +150,30 @@ abbrev pub Concludes : List Known → Task → List Conclusion → Type 0
 Concludes known (Solo a) found = (x : Known) × (look known a ≡ Some x) × SoloConcludes a x.entry.clause found
 Concludes known (Pair a b) found = (x : Known) × (y : Known) × (look known a ≡ Some x) × (look known b ≡ Some y) × PairConcludes a x.entry.clause b y.entry.clause found
 
--- conclusions of the task from number k on, each an item
-abbrev pub items_of : Task → ℕ → List Conclusion → List Item
-items_of task k [] = []
-items_of task k (c ∷ cs) = record { origin = origin.Task task k; steps = c.step ∷ []; clause = c.clause } ∷ items_of task (k + 1) cs
+-- conclusions of the task from number k on, each as an item
+abbrev pub AreTaskItems : Task → ℕ → List Conclusion → List Item → Type 0
+AreTaskItems task k [] items = items ≡ []
+AreTaskItems task k (c ∷ cs) items =
+    (item : Item) × (others : List Item) × IsItemOf (origin.Task task k) c.step c.clause item × AreTaskItems task (k + 1) cs others × (items ≡ item ∷ others)
 
-abbrev pub worked : Local → Task → List Task → List Conclusion → Local
-worked s task others found =
+-- what a task gives: its conclusions, their items, and the tasks that are still owed
+pub record Yield : Type 0 where
+  pub others : List Task
+  pub found : List Conclusion
+  pub items : List Item
+
+pub record IsYield (s : Local) (task : Task) (y : Yield) : Type 0 where
+  pub takes : TakesOut task s.owed y.others
+  pub concludes : Concludes s.known task y.found
+  pub items : AreTaskItems task 0 y.found y.items
+
+-- the items become pending, and the task is done
+abbrev pub worked : Local → Task → Yield → Local
+worked s task y =
     record s {
-      pending = s.pending ++ items_of task 0 found;
-      owed = others;
-      done = s.done ++ record { task = task; conclusions = length found } ∷ [];
+      pending = s.pending ++ y.items;
+      owed = y.others;
+      done = s.done ++ record { task = task; conclusions = length y.found } ∷ [];
       units = s.units + 1;
     }
 
@@ -134,24 +192,24 @@ EndFits s Spent = (s.units ≡ s.limits.steps) × (s.owed ≢ [])
 
 -- ---- events
 
--- what an act finds: the item in its place and its outcome; the other owed tasks and the conclusions
+-- what an act finds: the item in its place and its outcome; what the task gives
 abbrev pub Found : Act → Type 0
 Found (Keep place) = Item × Outcome
-Found (Work task) = List Task × List Conclusion
+Found (Work task) = Yield
 Found Declare = Unit {0}
 Found (End verdict) = Unit {0}
 
 -- what was found is what is to be found, and the act may be
 abbrev pub Fits : Local → (act : Act) → Found act → Type 0
 Fits s (Keep place) found = (slice_get s.pending place ≡ Some found.0) × OutcomeFits s found.0 found.1
-Fits s (Work task) found = TakesOut task s.owed found.0 × (s.units < s.limits.steps) × Concludes s.known task found.1
+Fits s (Work task) found = (s.units < s.limits.steps) × IsYield s task found
 Fits s Declare found = IsQuiet s
 Fits s (End verdict) found = EndFits s verdict
 
 -- what the act changes
 abbrev pub acted : Local → (act : Act) → Found act → Local
 acted s (Keep place) found = kept s place found.0 found.1
-acted s (Work task) found = worked s task found.0 found.1
+acted s (Work task) found = worked s task found
 acted s Declare found = record s { verdict = Some Saturated }
 acted s (End verdict) found = record s { verdict = Some verdict }
 
@@ -215,14 +273,18 @@ stamped s act = record s { clock = tick s.clock; journal = s.journal ++ next_eve
 pub record KeepsFirst (s next : Local) : Type 0 where
   pub item : Item
   pub others : List Item
+  pub outcome : Outcome
   pub pending : s.pending ≡ item ∷ others
-  pub effect : next ≡ after s (next_event s (Keep 0)) (item, Named (next_name s))
+  pub fits : OutcomeFits s item outcome
+  pub effect : next ≡ after s (next_event s (Keep 0)) (item, outcome)
 
 -- the first owed task is done
 pub record WorksFirst (s next : Local) : Type 0 where
   pub task : Task
   pub others : List Task
   pub found : List Conclusion
+  pub items : List Item
   pub owed : s.owed ≡ task ∷ others
   pub concludes : Concludes s.known task found
-  pub effect : next ≡ after s (next_event s (Work task)) (others, found)
+  pub are_items : AreTaskItems task 0 found items
+  pub effect : next ≡ after s (next_event s (Work task)) (record { others = others; found = found; items = items })

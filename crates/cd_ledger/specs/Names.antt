@@ -1,9 +1,9 @@
 -- Names, and the names that steps mention.
-use Rattle.std.specs.Prelude.{◌≡◌, ℕ, Bool, true, false, ◌&&◌, ◌==◌, if◌then◌else◌, List, [], ◌∷◌, ◌++◌, Option, find}
+use Rattle.std.specs.Prelude.{Bool, ◌&&◌, ◌==◌, if◌then◌else◌, List, [], ◌∷◌, ◌++◌, Option, find}
 use Rattle.std.specs.List.{list_any, flat_map}
-use Rattle.cd_steps.specs.declared.Name.{Name}
+use Rattle.cd_names.specs.declared.names.Name.{Name}
 use Rattle.cd_steps.specs.declared.Step.{Step}
-use Rattle.cd_steps.specs.declared.Step.TheVariants.{Input, Resolve}
+use Rattle.cd_steps.specs.declared.Step.TheVariants.{Input, Resolve, Tidy}
 use Rattle.cd_ledger.specs.declared.Known.{Known}
 
 abbrev pub name_eq : Name → Name → Bool
@@ -13,6 +13,7 @@ name_eq a b = a.peer == b.peer && a.seq == b.seq
 abbrev pub names_in : Step → List Name
 names_in (Input index) = []
 names_in (Resolve pos i neg j subst) = pos ∷ neg ∷ []
+names_in Tidy = []
 
 abbrev pub add_once : List Name → Name → List Name
 add_once seen n = if list_any (λ m. name_eq m n) seen then seen else seen ++ n ∷ []

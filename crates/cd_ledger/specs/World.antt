@@ -1,5 +1,5 @@
 -- All peers and the letters between them, and the runs of all.
-use Rattle.std.specs.Prelude.{◌≡◌, ℕ, ◌+◌, ◌==◌, Bool, true, false, if◌then◌else◌, List, [], ◌∷◌, ◌++◌, map, Option, None, Some, slice_get, slice_set}
+use Rattle.std.specs.Prelude.{◌≡◌, ℕ, ◌+◌, Bool, true, false, if◌then◌else◌, List, [], ◌∷◌, ◌++◌, Option, None, Some, slice_get, slice_set}
 use Rattle.std.specs.List.{AllByRecursion}
 use Rattle.cd_read.specs.declared.problem.Problem.{Problem}
 use Rattle.cd_ledger.specs.declared.Act.{Act}
@@ -9,16 +9,18 @@ use Rattle.cd_ledger.specs.declared.Known.{Known}
 use Rattle.cd_ledger.specs.declared.Limits.{Limits}
 use Rattle.cd_ledger.specs.declared.Local.{Local}
 use Rattle.cd_ledger.specs.declared.Letter.{Letter}
-use Rattle.cd_ledger.specs.Machine.{start_local, Found, IsLegal, IsQuiet, after, sent, is_empty}
+use Rattle.cd_ledger.specs.Machine.{IsStart, Found, IsLegal, IsQuiet, after, sent, is_empty}
 
 -- the states of the peers, in the order of their numbers, and the letters that travel
 pub record World : Type 0 where
   pub locals : List Local
   pub travelling : List Letter
 
--- one peer, and no letter
-unfoldable pub start_world : Problem → Limits → World
-start_world p limits = record { locals = start_local p limits ∷ []; travelling = [] }
+-- one peer at its start, and no letter
+pub record IsStartWorld (p : Problem) (limits : Limits) (w : World) : Type 0 where
+  pub local : Local
+  pub starts : IsStart p limits local
+  pub alone : w ≡ record { locals = local ∷ []; travelling = [] }
 
 -- what travels after an act: its letters join the others
 abbrev pub Moves : Act → List Letter → List Letter → List Letter → Type 0
@@ -40,6 +42,12 @@ pub record WorldStep (w : World) (e : Event) (v : World) : Type 0 where
 abbrev pub Run : World → List Event → World → Type 0
 Run w [] v = v ≡ w
 Run w (e ∷ es) v = (u : World) × WorldStep w e u × Run u es v
+
+-- the events are a run from the start of the problem to this world
+pub record Runs (p : Problem) (limits : Limits) (events : List Event) (w : World) : Type 0 where
+  pub first : World
+  pub starts : IsStartWorld p limits first
+  pub run : Run first events w
 
 -- nothing travels, and at every peer nothing is pending or owed
 pub record IsClosed (w : World) : Type 0 where

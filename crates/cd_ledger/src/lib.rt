@@ -8,7 +8,8 @@
 
 use cd_clause::Clause;
 use cd_list::{Queue, Sequence};
-use cd_steps::{Name, Names, Steps};
+use cd_names::{Name, Names};
+use cd_steps::Steps;
 
 /// What is to be concluded: from one clause alone, or from a positive literal of the first and a negative
 /// one of the second.
@@ -63,6 +64,11 @@ pub type Knowns = Sequence<Known>;
 pub enum Outcome {
     /// Its clause was recorded under this name.
     Named(Name),
+    /// Its clause is a tautology.
+    Trivial,
+    /// All literals of the clause with this name, the first such in the order in which they became known,
+    /// occur in its clause.
+    Subsumed(Name),
 }
 
 /// An item that is no longer pending.

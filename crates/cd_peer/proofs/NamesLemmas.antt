@@ -2,7 +2,7 @@
 use Rattle.std.proofs.Common.{◌≡◌, ℕ, zero, suc, ◌+◌, ◌<◌, ◌==◌, Bool, true, false, ◌&&◌, cond, List, [], ◌∷◌, ◌++◌, Some, slice_get, refl, sym, ap, ◌∙◌, subst, arith}
 use Rattle.std.specs.List.{find}
 use Rattle.std.proofs.lemmas.Bool.Decides.{nat_tests}
-use Rattle.cd_steps.specs.declared.Name.{Name}
+use Rattle.cd_names.specs.declared.names.Name.{Name}
 use Rattle.cd_ledger.specs.declared.Known.{Known}
 use Rattle.cd_ledger.specs.Names.{name_eq, each_once, add_once, look}
 use Rattle.cd_peer.specs.Ready.{AreNumbered}

@@ -7,12 +7,12 @@ use Rattle.cd_ledger.specs.declared.Event.{Event}
 use Rattle.cd_ledger.specs.declared.Item.{Item}
 use Rattle.cd_ledger.specs.declared.Limits.{Limits}
 use Rattle.cd_ledger.specs.declared.Local.{Local}
-use Rattle.cd_ledger.specs.declared.Outcome.TheVariants.{Named}
+use Rattle.cd_ledger.specs.declared.Outcome.TheVariants.{Named, Trivial, Subsumed}
 use Rattle.cd_ledger.specs.declared.Task.{Task}
 use Rattle.cd_ledger.specs.declared.Verdict.{Verdict}
 use Rattle.cd_ledger.specs.declared.Verdict.TheVariants.{Refuted, Saturated, Spent}
-use Rattle.cd_ledger.specs.Machine.{start_local, is_empty, kept, recorded_item, Found, Fits, acted, after, LocalStep, IsTurn, sent, first_act, first_of}
-use Rattle.cd_ledger.specs.World.{World, Run, WorldStep, Moves, start_world, has_empty, work_of, work_count, EndsWith}
+use Rattle.cd_ledger.specs.Machine.{IsStart, waiting, is_empty, kept, recorded_item, Found, Fits, acted, after, LocalStep, IsTurn, sent, first_act, first_of}
+use Rattle.cd_ledger.specs.World.{World, Run, Runs, WorldStep, Moves, has_empty, work_of, work_count, EndsWith}
 use Rattle.cd_ledger.proofs.Lists.{length_remove}
 use Rattle.cd_ledger.proofs.Empty.{has_empty-push}
 use Rattle.cd_peer.specs.Finished.{alone, VerdictSays, IsReached, IsSettled, open_count}
@@ -47,12 +47,16 @@ world_step s next e first step =
 
 acted_me : (s : Local) (act : Act) (found : Found act) → (acted s act found).me ≡ s.me
 acted_me s (Keep place) (item, Named n) = refl
+acted_me s (Keep place) (item, Trivial) = refl
+acted_me s (Keep place) (item, Subsumed n) = refl
 acted_me s (Work task) found = refl
 acted_me s Declare found = refl
 acted_me s (End verdict) found = refl
 
 acted_limits : (s : Local) (act : Act) (found : Found act) → (acted s act found).limits ≡ s.limits
 acted_limits s (Keep place) (item, Named n) = refl
+acted_limits s (Keep place) (item, Trivial) = refl
+acted_limits s (Keep place) (item, Subsumed n) = refl
 acted_limits s (Work task) found = refl
 acted_limits s Declare found = refl
 acted_limits s (End verdict) found = refl
@@ -60,6 +64,8 @@ acted_limits s (End verdict) found = refl
 -- a task is a unit
 acted_units : (s : Local) (act : Act) (found : Found act) → (acted s act found).units ≡ s.units + work_of act
 acted_units s (Keep place) (item, Named n) = omega arith
+acted_units s (Keep place) (item, Trivial) = omega arith
+acted_units s (Keep place) (item, Subsumed n) = omega arith
 acted_units s (Work task) found = refl
 acted_units s Declare found = omega arith
 acted_units s (End verdict) found = omega arith
@@ -84,6 +90,12 @@ says_after : (s : Local) (e : Event) (act : Act) (found : Found act) (t : Local)
 says_after s e (Keep place) (item, Named n) t running none fits is effect =
     let u = record (kept s place item (Named n)) { clock = e.time; journal = s.journal ++ e ∷ [] } in
     subst (λ (x : Local). VerdictSays x.verdict x) (sym effect) (named_says (is_empty item.clause) u (has_empty-push s.known (recorded_item n item) none))
+says_after s e (Keep place) (item, Trivial) t running none fits is effect =
+    let u = record (kept s place item Trivial) { clock = e.time; journal = s.journal ++ e ∷ [] } in
+    subst (λ (x : Local). VerdictSays x.verdict x) (sym effect) (none_says u.verdict u running none)
+says_after s e (Keep place) (item, Subsumed n) t running none fits is effect =
+    let u = record (kept s place item (Subsumed n)) { clock = e.time; journal = s.journal ++ e ∷ [] } in
+    subst (λ (x : Local). VerdictSays x.verdict x) (sym effect) (none_says u.verdict u running none)
 says_after s e (Work task) found t running none fits is effect =
     let u = record (acted s (Work task) found) { clock = e.time; journal = s.journal ++ e ∷ [] } in
     subst (λ (x : Local). VerdictSays x.verdict x) (sym effect) (none_says u.verdict u running none)
@@ -99,9 +111,20 @@ says_after s e (End Spent) found t running none fits is effect =
 
 -- ---- the run goes on
 
-pub reached_start : (p : Problem) (limits : Limits) (s : Local) → s ≡ start_local p limits → IsReached p limits s
-unfolding start_local start_world
-reached_start p limits s is = subst (IsReached p limits) (sym is) (record { run = refl; me = refl; limits_are = refl; counted = refl; says = refl })
+pub reached_start : (p : Problem) (limits : Limits) (s : Local) → IsStart p limits s → IsReached p limits s
+reached_start p limits s start =
+    let at : IsReached p limits (waiting limits start.items) = record {
+      run = record {
+        first = alone (waiting limits start.items);
+        starts = record { local = waiting limits start.items; starts = record { items = start.items; inputs = start.inputs; state = refl }; alone = refl };
+        run = refl;
+      };
+      me = refl;
+      limits_are = refl;
+      counted = refl;
+      says = refl;
+    } in
+    subst (IsReached p limits) (sym start.state) at
 
 none_yet : (v : Option Verdict) (s : Local) → v ≡ None → VerdictSays v s → has_empty s.known ≡ false
 none_yet None s is h = h
@@ -111,11 +134,12 @@ pub reached_turn : (p : Problem) (limits : Limits) (s next : Local) → IsReache
 reached_turn p limits s next r running t =
     let e = t.event in
     let step = world_step s next e r.me t.step in
-    let run : Run (start_world p limits) (s.journal ++ e ∷ []) (alone next) = run_more (start_world p limits) (alone s) (alone next) s.journal e r.run step in
+    let run : Runs p limits (s.journal ++ e ∷ []) (alone next) =
+    record { first = r.run.first; starts = r.run.starts; run = run_more r.run.first (alone s) (alone next) s.journal e r.run.run step } in
     let none = none_yet s.verdict s running r.says in
     let f = t.step.found in
     record {
-      run = subst (λ (es : List Event). Run (start_world p limits) es (alone next)) (sym t.journal) run;
+      run = subst (λ (es : List Event). Runs p limits es (alone next)) (sym t.journal) run;
       me = ap (λ (x : Local). x.me) t.step.effect ∙ acted_me s e.act f ∙ r.me;
       limits_are = ap (λ (x : Local). x.limits) t.step.effect ∙ acted_limits s e.act f ∙ r.limits_are;
       counted = ap work_count t.journal ∙ work_count-push s.journal e ∙ ap (λ (n : ℕ). n + work_of e.act) r.counted ∙ sym (acted_units s e.act f) ∙ sym (ap (λ (x : Local). x.units) t.step.effect);
@@ -152,6 +176,8 @@ some_pending (i ∷ is) some = (i, is, refl)
 
 kept_act : (s : Local) (act : Act) (found : Found act) → act ≡ Keep 0 → Fits s act found → KeptOne s (acted s act found)
 kept_act s (Keep place) (item, Named n) is fits = record { units = refl; limits_are = refl; fewer = omega (arith, length_remove s.pending place item fits.0) }
+kept_act s (Keep place) (item, Trivial) is fits = record { units = refl; limits_are = refl; fewer = omega (arith, length_remove s.pending place item fits.0) }
+kept_act s (Keep place) (item, Subsumed n) is fits = record { units = refl; limits_are = refl; fewer = omega (arith, length_remove s.pending place item fits.0) }
 kept_act s (Work task) found is fits = absurd (cc is)
 kept_act s Declare found is fits = absurd (cc is)
 kept_act s (End verdict) found is fits = absurd (cc is)
@@ -179,7 +205,7 @@ opened s running = ap open_count running
 
 left_act : (s : Local) (act : Act) (found : Found act) → act ≡ first_act s → s.pending ≡ [] → s.verdict ≡ None → Fits s act found → left_count (acted s act found) < left_count s
 left_act s (Keep place) found is none running fits = absurd (no_keep s.owed (nat_le s.limits.steps s.units) place (is ∙ ap (λ (l : List Item). first_of l s.owed (nat_le s.limits.steps s.units)) none))
-left_act s (Work task) found is none running fits = omega (arith, opened s running, fits.1)
+left_act s (Work task) found is none running fits = omega (arith, opened s running, fits.0)
 left_act s Declare found is none running fits = omega (arith, opened s running)
 left_act s (End verdict) found is none running fits = omega (arith, opened s running)
 

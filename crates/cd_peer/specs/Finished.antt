@@ -8,7 +8,7 @@ use Rattle.cd_ledger.specs.declared.Verdict.{Verdict}
 use Rattle.cd_ledger.specs.declared.Verdict.TheVariants as verdict
 use Rattle.cd_ledger.specs.Machine.{IsQuiet}
 use Rattle.cd_peer.specs.Ready.{IsReady}
-use Rattle.cd_ledger.specs.World.{World, Run, start_world, has_empty, work_count, EndsWith}
+use Rattle.cd_ledger.specs.World.{World, Runs, has_empty, work_count, EndsWith}
 
 -- the world of one peer
 abbrev pub alone : Local → World
@@ -23,7 +23,7 @@ VerdictSays (Some verdict.Spent) s = (has_empty s.known ≡ false) × (s.units �
 
 -- the peer's journal leads from the start to this state
 pub record IsReached (p : Problem) (limits : Limits) (s : Local) : Type 0 where
-  pub run : Run (start_world p limits) s.journal (alone s)
+  pub run : Runs p limits s.journal (alone s)
   pub me : s.me ≡ 0
   pub limits_are : s.limits ≡ limits
   pub counted : work_count s.journal ≡ s.units

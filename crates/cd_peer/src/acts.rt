@@ -1,20 +1,22 @@
 //! The acts of a peer, each one event.
 ghost use Rattle.std.specs.Prelude.{◌≡◌, ◌≢◌, ◌+◌, ◌<◌, ◌^◌, ◌++◌, ◌∷◌, [], length, IfOk, OnOk, None};
-ghost use Rattle.cd_ledger.specs.Machine.{start_local, IsTurn, KeepsFirst, WorksFirst, stamped, tick};
-ghost use Rattle.cd_peer.specs.Ready.{IsReady};
+ghost use Rattle.cd_ledger.specs.Machine.{IsStart, IsTurn, KeepsFirst, WorksFirst, settlement, stamped, tick};
+ghost use Rattle.cd_peer.specs.Ready.{IsReady, named};
 
-use crate::changes::{add_items, add_tasks, conclude, record_item, start_items, verdict_on};
-use cd_ledger::{Act, Done, Event, Limits, Local, Verdict};
+use crate::changes::{
+    add_items, add_tasks, conclude, record_item, settle_item, start_items, verdict_on,
+};
+use crate::subsumption::outcome_of;
+use cd_ledger::{Act, Done, Event, Item, Limits, Local, Outcome, Verdict};
 use cd_list::{Queue, Sequence};
+use cd_names::Name;
 use cd_read::Problem;
-use cd_steps::Name;
 use std::alloc::{AllocError, Global};
 
 /// The state in which all inputs of the problem are pending.
-#[tactic(auto, unfolding(cd_ledger::specs::Machine::start_local))]
 pub fn start(alloc: Global, problem: &Problem, limits: Limits) -> Result<Local, AllocError>
     requires { length problem.now.inputs < 2 ^ 32 }
-    ensures { IfOk result (λ s. s ≡ start_local problem.now limits) }
+    ensures { IfOk result (IsStart problem.now limits) }
 {
     let pending = start_items(alloc, problem.inputs.as_slice())?;
     Ok(Local {
@@ -79,16 +81,37 @@ fn keep(alloc: Global, mut local: Local) -> Result<Local, AllocError>
     let Some(item) = local.pending.pop_front() else {
         unreachable!();
     };
-    let name = Name {
+    let next = Name {
         peer: local.me,
         seq: local.next_seq,
     };
+    match outcome_of(local.known.as_slice(), next, &item.clause) {
+        Outcome::Named(name) => record(alloc, local, name, item),
+        Outcome::Trivial => settle(local, item, Outcome::Trivial),
+        Outcome::Subsumed(name) => settle(local, item, Outcome::Subsumed(name)),
+    }
+}
+
+// The item, which was taken out, is recorded under this name.
+fn record(alloc: Global, mut local: Local, name: Name, item: Item) -> Result<Local, AllocError>
+    requires room { local.next_seq + 1 < 2 ^ 32 }
+    ensures { IfOk result (λ next. next ≡ stamped (named local item name) (Act.Keep 0)) }
+{
     add_tasks(&mut local.owed, name, local.known.as_slice())?;
     let (known, settled) = record_item(alloc, name, item)?;
     local.verdict = verdict_on(&known.entry.clause);
     local.known.push(known)?;
     local.settled.push(settled)?;
     local.next_seq += 1;
+    stamp(&mut local, Act::Keep { place: 0 })?;
+    Ok(local)
+}
+
+// Of the item, which was taken out, nothing stays but its entry.
+fn settle(mut local: Local, item: Item, outcome: Outcome) -> Result<Local, AllocError>
+    ensures { IfOk result (λ next. next ≡ stamped (record local { settled = local.settled ++ settlement item outcome ∷ [] }) (Act.Keep 0)) }
+{
+    local.settled.push(settle_item(item, outcome))?;
     stamp(&mut local, Act::Keep { place: 0 })?;
     Ok(local)
 }

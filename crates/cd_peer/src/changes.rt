@@ -2,38 +2,55 @@
 ghost use Rattle.std.specs.Prelude.{◌≡◌, ◌<◌, ◌≤◌, ◌^◌, ◌++◌, ◌∷◌, [], length, map, slice_get, IfOk, OnOk, Some, None, if◌then◌else◌};
 ghost use Rattle.std.specs.List.{AllByRecursion, list_any};
 ghost use Rattle.cd_ledger.specs.Names.{cites_of, each_once, add_once, names_in, name_eq, look};
-ghost use Rattle.cd_ledger.specs.Machine.{items_from, items_of, tasks_of, name_of, recorded_item, settlement, is_empty, Concludes};
-ghost use Rattle.cd_peer.specs.Ready.{AreNumbered, IsNumbered, IsTaskKnown, IsShort};
+ghost use Rattle.cd_ledger.specs.Machine.{IsItemOf, AreInputItems, tasks_of, name_of, recorded_item, settlement, is_empty, Concludes};
+ghost use Rattle.cd_peer.specs.Ready.{AreNumbered, IsNumbered, IsTaskKnown, AddsItems};
+ghost use Rattle.cd_ledger.specs.Lean.{IsUsable};
 
-use cd_clause::Clause;
+use cd_clause::{Clause, is_tidied, tidy};
 use cd_infer::{Conclusion, Conclusions, pair, solo};
 use cd_ledger::{Item, Known, Origin, Outcome, Record, Settled, Status, Task, Verdict};
 use cd_list::{Copied, Queue, Sequence};
+use cd_names::{Name, Names};
 use cd_read::Input;
-use cd_steps::{Name, Names, Step};
+use cd_steps::Step;
 use std::alloc::{AllocError, Global};
 
+/// The inputs as items, in their order.
 pub fn start_items(alloc: Global, inputs: &[Input]) -> Result<Queue<Item>, AllocError>
     requires { length inputs.now < 2 ^ 32 }
-    ensures { IfOk result (λ items. items ≡ items_from 0 inputs.now) }
+    ensures { IfOk result (AreInputItems 0 inputs.now) }
 {
     let mut pending = Queue::new(alloc);
     let mut index = 0u32;
-    let mut rest = inputs;
-    while let [input, after @ ..] = rest {
-        let mut steps = Sequence::new(alloc);
-        steps.push(Step::Input { index })?;
+    for input in inputs {
         let clause = input.clause.copy(alloc)?;
-        let origin = Origin::Input(index);
-        pending.push_back(Item {
+        let item = item_of(alloc, Origin::Input(index), Step::Input { index }, clause)?;
+        pending.push_back(item)?;
+        index += 1;
+    }
+    Ok(pending)
+}
+
+/// The item of a step that gives this clause, tidied where it isn't tidy.
+fn item_of(alloc: Global, origin: Origin, step: Step, clause: Clause) -> Result<Item, AllocError>
+    ensures { IfOk result (IsItemOf origin step clause) }
+{
+    let mut steps = Sequence::new(alloc);
+    steps.push(step)?;
+    if is_tidied(&clause, &clause) {
+        return Ok(Item {
             origin,
             steps,
             clause,
-        })?;
-        index += 1;
-        rest = after;
+        });
     }
-    Ok(pending)
+    let clause = tidy(alloc, &clause)?;
+    steps.push(Step::Tidy)?;
+    Ok(Item {
+        origin,
+        steps,
+        clause,
+    })
 }
 
 /// The tasks of a new name, behind those that are owed.
@@ -99,6 +116,7 @@ fn add_names(names: &mut Names, step: &Step) -> Result<(), AllocError>
             add_once(names, *pos)?;
             add_once(names, *neg)
         }
+        Step::Tidy => Ok(()),
     }
 }
 
@@ -175,7 +193,7 @@ pub fn conclude(
 ) -> Result<Conclusions, AllocError>
     requires numbered { AreNumbered me known.now }
     requires there { IsTaskKnown me (length known.now) task }
-    requires short { AllByRecursion (λ x. IsShort x.entry.clause) known.now }
+    requires usable { AllByRecursion (λ x. IsUsable x.entry.clause) known.now }
     ensures { IfOk result (λ found. Concludes known.now task found) }
 {
     let _ = me;
@@ -199,20 +217,30 @@ pub fn add_items(
     task: Task,
     found: Conclusions,
 ) -> Result<(), AllocError>
-    ensures { OnOk result (pending.new ≡ pending.old ++ items_of task 0 found) }
+    ensures { OnOk result (AddsItems task found pending.old pending.new) }
 {
     let mut index = 0u64;
     for conclusion in found.into_vec() {
         let Conclusion { step, clause } = conclusion;
-        let mut steps = Sequence::new(alloc);
-        steps.push(step)?;
-        let origin = Origin::Task(task, index);
-        pending.push_back(Item {
-            origin,
-            steps,
-            clause,
-        })?;
+        let item = item_of(alloc, Origin::Task(task, index), step, clause)?;
+        pending.push_back(item)?;
         index += 1;
     }
     Ok(())
+}
+
+/// The entry of an item with this outcome.
+pub fn settle_item(item: Item, outcome: Outcome) -> Settled
+    ensures { result ≡ settlement item outcome }
+{
+    let Item {
+        origin,
+        steps,
+        clause: _,
+    } = item;
+    Settled {
+        origin,
+        steps,
+        outcome,
+    }
 }

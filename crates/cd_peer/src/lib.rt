@@ -4,6 +4,7 @@
 mod acts;
 mod changes;
 mod running;
+mod subsumption;
 
 pub use acts::{start, turn};
 pub use running::run;

@@ -1,9 +1,9 @@
 //! Runs the peer to its verdict.
 ghost use Rattle.std.specs.Prelude.{◌≡◌, ◌+◌, ◌^◌, ◌<◌, ◌↔◌, [], None, length, IsTrue, IfOk};
-ghost use Rattle.std.specs.List.{AllByRecursion};
+ghost use Rattle.cd_read.specs.Problems.{ArePropositional};
 ghost use Rattle.cd_read.specs.declared.problem.Problem.{Problem};
 ghost use Rattle.cd_ledger.specs.declared.Limits.{Limits};
-ghost use Rattle.cd_peer.specs.Ready.{IsReady, IsShort};
+ghost use Rattle.cd_peer.specs.Ready.{IsReady};
 ghost use Rattle.cd_peer.specs.Finished.{IsFinished, IsReached, IsSettled};
 
 use crate::acts::{start, turn};
@@ -13,7 +13,7 @@ use std::alloc::{AllocError, Global};
 
 /// Runs one peer on the problem until it has a verdict. It does at most `limits.steps` tasks.
 pub fn run(alloc: Global, problem: &Problem, limits: Limits) -> Result<Local, AllocError>
-    requires short { AllByRecursion (λ i. IsShort i.clause) problem.now.inputs }
+    requires propositional { ArePropositional problem.now.inputs }
     requires room { length problem.now.inputs + limits.steps < 2 ^ 32 }
     ensures { IfOk result (IsFinished problem.now limits) }
 {

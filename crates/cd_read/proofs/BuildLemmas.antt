@@ -2,15 +2,16 @@
 use Rattle.std.proofs.Common.{◌≡◌, ℕ, zero, suc, ◌+◌, ◌<◌, ◌≤◌, List, [], ◌∷◌, ◌++◌, length, Some, slice_get, inl, inr, refl, sym, ap, ◌∙◌, subst, arith, append_assoc, append-nil}
 use Rattle.std.specs.List.{AllByRecursion}
 use Rattle.std.proofs.lemmas.List.{length-append}
+use Rattle.cd_clause.specs.declared.Atom.{Atom}
+use Rattle.cd_clause.specs.declared.Atom.TheVariants.{Truth, Pred, Equal}
 use Rattle.cd_clause.specs.declared.Literal.{Literal}
-use Rattle.cd_clause.specs.declared.Atom.TheVariants.{Pred}
 use Rattle.cd_symbols.specs.Symbol.{Symbol, symbol_of, Interns}
 use Rattle.cd_symbols.specs.declared.Kind.TheVariants.{Predicate}
 use Rattle.cd_read.specs.declared.statement.Statement.{Statement}
 use Rattle.cd_read.specs.declared.statement.SignedWord.{SignedWord}
 use Rattle.cd_read.specs.declared.problem.Problem.{Problem}
 use Rattle.cd_read.specs.declared.problem.Input.{Input}
-use Rattle.cd_read.specs.Problems.{GivesLiterals, GivesInputs, GivesProblem, input_of, literals_count, AtomFormed, ClauseFormed, IsFormed, AreUnits}
+use Rattle.cd_read.specs.Problems.{GivesLiterals, GivesInputs, GivesProblem, input_of, literals_count, AtomFormed, ClauseFormed, IsFormed, IsPropositionalAtom, ArePropositional}
 
 -- interning takes at most one place
 pub interned_room : (old new : List Symbol) (s : Symbol) (n : ℕ) → Interns old new s n → length new ≤ length old + 1
@@ -19,7 +20,7 @@ interned_room old new s n (inr added) = omega (arith, ap length added.2, length-
 
 -- what the rest gives behind one more literal
 pub literal_more : (start before between : List Symbol) (words rest others_words : List SignedWord) (w : SignedWord) (n : ℕ) (so_far more : List Literal) (l : Literal)
-    → rest ≡ w ∷ others_words → more ≡ so_far ++ l ∷ [] → l ≡ record { positive = w.positive; atom = Pred n } → Interns before between (symbol_of w.word 0 Predicate) n
+    → rest ≡ w ∷ others_words → more ≡ so_far ++ l ∷ [] → l ≡ record { positive = w.positive; atom = Pred n [] } → Interns before between (symbol_of w.word 0 Predicate) n
     → ((others : List Literal) (after : List Symbol) → GivesLiterals before rest others after → GivesLiterals start words (so_far ++ others) after)
     → (others : List Literal) (after : List Symbol) → GivesLiterals between others_words others after → GivesLiterals start words (more ++ others) after
 literal_more start before between words rest others_words w n so_far more l is grown literal interned gives others after given =
@@ -97,7 +98,7 @@ literals_formed before (w ∷ ws) ls between after given grows =
     let symbol = symbol_of w.word 0 Predicate in
     let here = grows given.0 symbol (literals_grow given.1 ws given.2 between given.4 given.0 symbol (interned_at before given.1 symbol given.0 given.3)) in
     let others = literals_formed given.1 ws given.2 between after given.4 grows in
-    subst (λ (x : List Literal). AllByRecursion (λ l. AtomFormed after l.atom) x) (sym given.5) ((symbol, here, refl, refl), others)
+    subst (λ (x : List Literal). AllByRecursion (λ l. AtomFormed after l.atom) x) (sym given.5) ((symbol, here, refl, refl, refl), others)
 
 inputs_formed : (path : List ℕ) (before : List Symbol) (ss : List Statement) (is : List Input) (after : List Symbol) → GivesInputs path before ss is after → AllByRecursion (λ i. ClauseFormed after i.clause) is
 unfolding LiteralsFormed
@@ -107,30 +108,57 @@ inputs_formed path before (s ∷ ss) is after given =
     let others = inputs_formed path given.1 ss given.2 after given.4 in
     subst (λ (x : List Input). AllByRecursion (λ i. ClauseFormed after i.clause) x) (sym given.5) (first, others)
 
-pub problem_formed : (path : List ℕ) (ss : List Statement) (p : Problem) → GivesProblem path ss p → IsFormed p
-problem_formed path ss p given = record { clauses = inputs_formed path [] ss p.inputs p.symbols given.inputs }
+-- each literal is a signed word's
+literals_length : (before : List Symbol) (ws : List SignedWord) (ls : List Literal) (after : List Symbol) → GivesLiterals before ws ls after → length ls ≡ length ws
+literals_length before [] ls after given = ap length given.0
+literals_length before (w ∷ ws) ls after given = ap length given.5 ∙ ap suc (literals_length given.1 ws given.2 after given.4)
+
+-- no input has more literals than there are
+inputs_short : (path : List ℕ) (before : List Symbol) (ss : List Statement) (is : List Input) (after : List Symbol) → literals_count ss ≤ 65535 → GivesInputs path before ss is after
+    → AllByRecursion (λ i. length i.clause.literals ≤ 65535) is
+inputs_short path before [] is after few given = subst (λ (x : List Input). AllByRecursion (λ i. length i.clause.literals ≤ 65535) x) (sym given.0) tt
+inputs_short path before (s ∷ ss) is after few given =
+    let here : length given.0 ≤ 65535 = omega (arith, literals_length before s.literals given.0 given.1 given.3, few) in
+    let others = inputs_short path given.1 ss given.2 after (omega (arith, few)) given.4 in
+    subst (λ (x : List Input). AllByRecursion (λ i. length i.clause.literals ≤ 65535) x) (sym given.5) (here, others)
+
+pub problem_formed : (path : List ℕ) (ss : List Statement) (p : Problem) → literals_count ss ≤ 65535 → length p.symbols ≤ literals_count ss → GivesProblem path ss p → IsFormed p
+problem_formed path ss p few room given = record {
+  few = omega (arith, few, room);
+  clauses = inputs_formed path [] ss p.inputs p.symbols given.inputs;
+  short = inputs_short path [] ss p.inputs p.symbols few given.inputs;
+}
 
 -- each statement gives one input
 pub inputs_count : (path : List ℕ) (before : List Symbol) (ss : List Statement) (is : List Input) (after : List Symbol) → GivesInputs path before ss is after → length is ≡ length ss
 inputs_count path before [] is after given = ap length given.0
 inputs_count path before (s ∷ ss) is after given = ap length given.5 ∙ ap suc (inputs_count path given.1 ss given.2 after given.4)
 
--- one literal each
-pub single_count : (ss : List Statement) → AllByRecursion (λ s. length s.literals ≡ 1) ss → literals_count ss ≡ length ss
-single_count [] one = refl
-single_count (s ∷ ss) one = let others = single_count ss one.1 in omega (arith, one.0)
-
 pub nothing_left : {A : Type 0} (xs : List A) → length xs < 1 → xs ≡ []
 nothing_left [] h = refl
 nothing_left (x ∷ xs) h = absurd (omega arith)
 
--- each literal is a signed word's
-literals_length : (before : List Symbol) (ws : List SignedWord) (ls : List Literal) (after : List Symbol) → GivesLiterals before ws ls after → length ls ≡ length ws
-literals_length before [] ls after given = ap length given.0
-literals_length before (w ∷ ws) ls after given = ap length given.5 ∙ ap suc (literals_length given.1 ws given.2 after given.4)
+-- ---- what is formed is propositional
 
-pub inputs_units : (path : List ℕ) (before : List Symbol) (ss : List Statement) (is : List Input) (after : List Symbol) → AllByRecursion (λ s. length s.literals ≡ 1) ss → GivesInputs path before ss is after → AreUnits is
-inputs_units path before [] is after one given = subst AreUnits (sym given.0) tt
-inputs_units path before (s ∷ ss) is after one given =
-    let few : length given.0 ≤ 1 = omega (arith, literals_length before s.literals given.0 given.1 given.3, one.0) in
-    subst AreUnits (sym given.5) (few, inputs_units path given.1 ss given.2 after one.1 given.4)
+get_within : {A : Type 0} (xs : List A) (n : ℕ) (x : A) → slice_get xs n ≡ Some x → n < length xs
+get_within [] n x there = absurd cc
+get_within (y ∷ xs) zero x there = omega arith
+get_within (y ∷ xs) (suc n) x there = let others = get_within xs n x there in omega (arith, others)
+
+atom_propositional : (symbols : List Symbol) (a : Atom) → length symbols ≤ 32768 → AtomFormed symbols a → IsPropositionalAtom a
+atom_propositional symbols Truth few formed = absurd formed
+atom_propositional symbols (Pred n args) few formed =
+    let within : n < length symbols = get_within symbols n formed.0 formed.1 in
+    (omega (arith, within, few), formed.4)
+atom_propositional symbols (Equal s t) few formed = absurd formed
+
+literals_propositional : (symbols : List Symbol) (ls : List Literal) → length symbols ≤ 32768 → AllByRecursion (λ l. AtomFormed symbols l.atom) ls → AllByRecursion (λ l. IsPropositionalAtom l.atom) ls
+literals_propositional symbols [] few formed = tt
+literals_propositional symbols (l ∷ ls) few formed = (atom_propositional symbols l.atom few formed.0, literals_propositional symbols ls few formed.1)
+
+inputs_propositional : (symbols : List Symbol) (is : List Input) → length symbols ≤ 32768 → AllByRecursion (λ i. ClauseFormed symbols i.clause) is → ArePropositional is
+inputs_propositional symbols [] few formed = tt
+inputs_propositional symbols (i ∷ is) few formed = (literals_propositional symbols i.clause.literals few formed.0, inputs_propositional symbols is few formed.1)
+
+pub problem_propositional : (p : Problem) → length p.symbols ≤ 32768 → IsFormed p → ArePropositional p.inputs
+problem_propositional p few formed = inputs_propositional p.symbols p.inputs few formed.clauses

@@ -28,14 +28,9 @@ pub record IsSpelled (s : Statement) : Type 0 where
   pub some : 0 < length s.literals
   pub words : AllByRecursion (λ l. IsTrue (is_word l.word)) s.literals
 
--- what is built so far: at most 200 statements, each with one literal
-pub record AreBuilt (statements : List Statement) : Type 0 where
-  pub few : length statements ≤ 200
-  pub single : AllByRecursion (λ s. length s.literals ≡ 1) statements
-
--- the bytes of a file that is read: its statements one after another
+-- the bytes of a file that is read so far: at most 4,096 statements one after another
 pub record IsFile (bytes : List ℕ) (statements : List Statement) : Type 0 where
   pub short : length bytes ≤ 65536
-  pub built : AreBuilt statements
+  pub few : length statements ≤ 4096
   pub spelled : AllByRecursion IsSpelled statements
   pub bytes_are : bytes ≡ flat_map spelling statements

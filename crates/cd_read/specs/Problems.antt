@@ -1,10 +1,10 @@
 -- The problem that a file's statements give.
-use Rattle.std.specs.Prelude.{◌≡◌, ◌≤◌, ℕ, ◌+◌, List, [], ◌∷◌, length, Some, slice_get}
+use Rattle.std.specs.Prelude.{◌≡◌, ◌≤◌, ◌<◌, ℕ, ◌+◌, List, [], ◌∷◌, length, Some, slice_get}
 use Rattle.std.specs.List.{AllByRecursion}
 use Rattle.std.specs.declared.result.Result.{Result}
 use Rattle.std.specs.declared.result.Result.TheVariants.{Ok, Err}
 use Rattle.cd_clause.specs.declared.Atom.{Atom}
-use Rattle.cd_clause.specs.declared.Atom.TheVariants.{Pred}
+use Rattle.cd_clause.specs.declared.Atom.TheVariants.{Truth, Pred, Equal}
 use Rattle.cd_clause.specs.declared.Literal.{Literal}
 use Rattle.cd_clause.specs.declared.Clause.{Clause}
 use Rattle.cd_symbols.specs.Symbol.{Symbol, symbol_of, Interns}
@@ -24,7 +24,7 @@ abbrev pub GivesLiterals : List Symbol → List SignedWord → List Literal → 
 GivesLiterals before [] literals after = (literals ≡ []) × (after ≡ before)
 GivesLiterals before (w ∷ ws) literals after =
     (n : ℕ) × (between : List Symbol) × (others : List Literal) × Interns before between (symbol_of w.word 0 Predicate) n
-    × GivesLiterals between ws others after × (literals ≡ record { positive = w.positive; atom = Pred n } ∷ others)
+    × GivesLiterals between ws others after × (literals ≡ record { positive = w.positive; atom = Pred n [] } ∷ others)
 
 -- the input of a statement in the file with this path
 abbrev pub input_of : List ℕ → Statement → List Literal → Input
@@ -51,17 +51,31 @@ abbrev pub Reads : List ℕ → List ℕ → Result Problem Wrong → Type 0
 Reads path bytes (Ok p) = (statements : List Statement) × IsFile bytes statements × GivesProblem path statements p
 Reads path bytes (Err w) = ((statements : List Statement) → IsFile bytes statements → ⊥) × (w ≡ record { what = NotBuilt; file = path; at = 0 })
 
--- the atom's symbol is a predicate of the table that takes no arguments
+-- the atom's symbol is a predicate of the table that takes no arguments: so far there are no other atoms
 abbrev pub AtomFormed : List Symbol → Atom → Type 0
-AtomFormed symbols (Pred n) = (s : Symbol) × (slice_get symbols n ≡ Some s) × (s.kind ≡ Predicate) × (s.arity ≡ 0)
+AtomFormed symbols Truth = ⊥
+AtomFormed symbols (Pred n args) = (s : Symbol) × (slice_get symbols n ≡ Some s) × (s.kind ≡ Predicate) × (s.arity ≡ 0) × (args ≡ [])
+AtomFormed symbols (Equal s t) = ⊥
 
 abbrev pub ClauseFormed : List Symbol → Clause → Type 0
 ClauseFormed symbols c = AllByRecursion (λ l. AtomFormed symbols l.atom) c.literals
 
--- every symbol of the inputs stands in the table
+-- there are at most 65,535 symbols, every symbol of the inputs stands in the table, and each input has at most 65,535 literals
 pub record IsFormed (p : Problem) : Type 0 where
+  pub few : length p.symbols ≤ 65535
   pub clauses : AllByRecursion (λ i. ClauseFormed p.symbols i.clause) p.inputs
+  pub short : AllByRecursion (λ i. length i.clause.literals ≤ 65535) p.inputs
 
--- each clause has one literal at most
-abbrev pub AreUnits : List Input → Type 0
-AreUnits inputs = AllByRecursion (λ i. length i.clause.literals ≤ 1) inputs
+-- a predicate without arguments, with a number below 32,768: so far a problem has no more symbols, since each literal takes two bytes
+-- of its file at least
+abbrev pub IsPropositionalAtom : Atom → Type 0
+IsPropositionalAtom Truth = ⊥
+IsPropositionalAtom (Pred n args) = (n < 32768) × (args ≡ [])
+IsPropositionalAtom (Equal s t) = ⊥
+
+abbrev pub IsPropositional : Clause → Type 0
+IsPropositional c = AllByRecursion (λ l. IsPropositionalAtom l.atom) c.literals
+
+-- the clauses of the inputs are propositional
+abbrev pub ArePropositional : List Input → Type 0
+ArePropositional inputs = AllByRecursion (λ i. IsPropositional i.clause) inputs

@@ -13,7 +13,8 @@ use std::alloc::{AllocError, Global};
 /// The problem of these statements in the file with this path.
 pub fn build(alloc: Global, path: &Text, statements: &[Statement]) -> Result<Problem, AllocError>
     requires { literals_count statements.now ≤ 65535 }
-    ensures { IfOk result (λ p. GivesProblem path.now statements.now p) }
+    ensures given { IfOk result (λ p. GivesProblem path.now statements.now p) }
+    ensures few { IfOk result (λ p. length p.symbols ≤ literals_count statements.now) }
 {
     let mut symbols = Symbols::new(alloc);
     let mut inputs = Sequence::new(alloc);
@@ -51,7 +52,7 @@ fn build_literals(
         let symbol = intern(symbols, &signed.word)?;
         literals.push(Literal {
             positive: signed.positive,
-            atom: Atom::Pred(symbol),
+            atom: Atom::Pred(symbol, Sequence::new(alloc)),
         })?;
         rest = after;
     }

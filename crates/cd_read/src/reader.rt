@@ -2,8 +2,8 @@
 ghost use Rattle.std.specs.Prelude.{◌≡◌, ◌≤◌, ◌↔◌, List, length, IsTrue, IfOk, IfErr, IfSome, IfNone, Ok};
 ghost use Rattle.cd_outside.specs.Outside.{Rose};
 ghost use Rattle.cd_read.specs.declared.statement.Statement.{Statement};
-ghost use Rattle.cd_read.specs.Files.{IsFile, AreBuilt};
-ghost use Rattle.cd_read.specs.Problems.{Reads, IsFormed, AreUnits};
+ghost use Rattle.cd_read.specs.Files.{IsFile};
+ghost use Rattle.cd_read.specs.Problems.{Reads, IsFormed, ArePropositional};
 ghost use Rattle.cd_read.specs.Fetched.{IsReadFrom, IsReadFault, IsOfLibrary};
 
 use crate::build::build;
@@ -47,8 +47,8 @@ pub fn read_problem<L: Library>(
 ) -> Result<Problem, ReadFault>
     ensures problem { IfOk result (IsReadFrom path.now (L.told library.old) (L.told library.new)) }
     ensures formed { IfOk result IsFormed }
-    ensures few { IfOk result (λ p. length p.inputs ≤ 200) }
-    ensures units { IfOk result (λ p. AreUnits p.inputs) }
+    ensures few { IfOk result (λ p. length p.inputs ≤ 4096) }
+    ensures propositional { IfOk result (λ p. ArePropositional p.inputs) }
     ensures fault { IfErr result (IsReadFault path.now (L.told library.old) (L.told library.new)) }
     ensures library { IfErr result (λ f. IsOfLibrary f → Rose (L.faults library.old) (L.faults library.new)) }
 {
@@ -78,8 +78,8 @@ pub fn read_problem<L: Library>(
 fn parse(alloc: Global, path: &Text, bytes: &[u8]) -> Result<Option<Problem>, AllocError>
     ensures some { IfOk result (λ found. IfSome found (λ p. Reads path.now bytes.now (Ok p))) }
     ensures formed { IfOk result (λ found. IfSome found IsFormed) }
-    ensures few { IfOk result (λ found. IfSome found (λ p. length p.inputs ≤ 200)) }
-    ensures units { IfOk result (λ found. IfSome found (λ p. AreUnits p.inputs)) }
+    ensures few { IfOk result (λ found. IfSome found (λ p. length p.inputs ≤ 4096)) }
+    ensures propositional { IfOk result (λ found. IfSome found (λ p. ArePropositional p.inputs)) }
     ensures none { IfOk result (λ found. IfNone found ((statements : List Statement) → IsFile bytes.now statements → ⊥)) }
 {
     if bytes.len() > 65_536 {
@@ -89,26 +89,11 @@ fn parse(alloc: Global, path: &Text, bytes: &[u8]) -> Result<Option<Problem>, Al
         Err(ScanFault::Memory) => Err(AllocError),
         Err(ScanFault::Form) => Ok(None),
         Ok(statements) => {
-            if !are_built(statements.as_slice()) {
+            if statements.len() > 4_096 {
                 return Ok(None);
             }
             let problem = build(alloc, path, statements.as_slice())?;
             Ok(Some(problem))
         }
     }
-}
-
-// Whether there are at most 200 statements, each with one literal.
-fn are_built(statements: &[Statement]) -> bool
-    ensures { IsTrue result ↔ AreBuilt statements.now }
-{
-    if statements.len() > 200 {
-        return false;
-    }
-    for statement in statements {
-        if statement.literals.len() != 1 {
-            return false;
-        }
-    }
-    true
 }

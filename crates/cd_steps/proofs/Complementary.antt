@@ -1,6 +1,5 @@
 -- How the tests of two literals tell whether they are complementary.
-use Rattle.cd_clause.specs.declared.Term.{Term}
-use Rattle.std.proofs.Common.{◌≡◌, ◌↔◌, Bool, true, false, List, [], ◌∷◌, Option, Some, IsTrue, refl, sym, ap, ◌∙◌}
+use Rattle.std.proofs.Common.{◌≡◌, ◌↔◌, Bool, true, false, Option, Some, IsTrue, sym, ap, ◌∙◌}
 use Rattle.cd_clause.specs.declared.Atom.{Atom}
 use Rattle.cd_clause.specs.declared.Literal.{Literal}
 use Rattle.cd_steps.specs.Steps.{AreComplementary}
@@ -22,8 +21,3 @@ by_atoms x y l m same has_l has_m positive negative atoms = (
       let q : m ≡ literal false c.atom = cc (has_m, c.negative) in
       atoms.1 (ap (λ (k : Literal). k.atom) p ∙ sym (ap (λ (k : Literal). k.atom) q)),
 )
-
--- there are no terms, so a list of them is empty
-pub no_terms : (ts : List Term) → ts ≡ []
-no_terms [] = refl
-no_terms (t ∷ ts) = elim t [ ]

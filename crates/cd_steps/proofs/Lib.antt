@@ -1,2 +1,4 @@
 pub mod Complementary
 pub mod Soundness
+pub mod Given
+pub mod Unique

@@ -1,20 +1,21 @@
 -- Right steps are sound.
-use Rattle.std.proofs.Common.{◌≡◌, ◌⊎◌, inl, inr, ℕ, zero, suc, Bool, true, false, ◌||◌, not, List, [], ◌∷◌, ◌++◌, remove, slice_get, Option, Some, refl, ap, ◌∙◌, subst}
+use Rattle.std.proofs.Common.{◌≡◌, ◌⊎◌, inl, inr, ℕ, zero, suc, Bool, true, false, ◌||◌, not, List, [], ◌∷◌, ◌++◌, remove, slice_get, Option, None, Some, refl, ap, ◌∙◌, subst}
 use Rattle.std.specs.List.{list_any}
 use Rattle.std.proofs.lemmas.List.Folds.{list_any-append}
 use Rattle.cd_clause.specs.declared.Clause.{Clause}
-use Rattle.cd_clause.specs.Truth.{Interp, Point, Holds, atom_true, literal_true}
-use Rattle.cd_steps.specs.declared.Step.TheVariants.{Input, Resolve}
-use Rattle.cd_steps.specs.Steps.{Resolves, HoldsIfAny, StepsAreSound}
+use Rattle.cd_clause.specs.Truth.{Interp, IsInterp, Point, Holds, atom_true, literal_true}
+use Rattle.cd_clause.proofs.TidyLemmas.{tidy_holds}
+use Rattle.cd_steps.specs.declared.Step.TheVariants.{Input, Resolve, Tidy}
+use Rattle.cd_steps.specs.Steps.{Resolves, TidiesIfAny, HoldsIfAny, StepsAreSound}
 
-either : (a b : Bool) → (a || b) ≡ true → (a ≡ true) ⊎ (b ≡ true)
+pub either : (a b : Bool) → (a || b) ≡ true → (a ≡ true) ⊎ (b ≡ true)
 either true b h = inl refl
 either false b h = inr h
 
-left_true : (a b : Bool) → a ≡ true → (a || b) ≡ true
+pub left_true : (a b : Bool) → a ≡ true → (a || b) ≡ true
 left_true a b h = ap (λ (x : Bool). x || b) h
 
-right_true : (a b : Bool) → b ≡ true → (a || b) ≡ true
+pub right_true : (a b : Bool) → b ≡ true → (a || b) ≡ true
 right_true true b h = refl
 right_true false b h = h
 
@@ -65,9 +66,14 @@ resolvent_true interp point a b c i j s r left right =
 if_some : (interp : Interp) (o : Option Clause) (c : Clause) → o ≡ Some c → HoldsIfAny interp o → Holds interp c
 if_some interp o c is h = subst (HoldsIfAny interp) is h
 
+tidied_holds : (interp : Interp) (o : Option Clause) (d : Clause) → IsInterp interp → TidiesIfAny o d → HoldsIfAny interp o → Holds interp d
+tidied_holds interp None d is ok h = absurd ok
+tidied_holds interp (Some c) d is ok h = (tidy_holds interp c d is ok).0 h
+
 pub steps_are_sound : StepsAreSound
-steps_are_sound interp (Input index) current first second result at_current at_first at_second ok = if_some interp first result ok at_first
-steps_are_sound interp (Resolve pos i neg j s) current first second result at_current at_first at_second ok =
+steps_are_sound interp (Input index) current first second result is at_current at_first at_second ok = if_some interp first result ok at_first
+steps_are_sound interp (Resolve pos i neg j s) current first second result is at_current at_first at_second ok =
     let left = if_some interp first ok.left ok.has_left at_first in
     let right = if_some interp second ok.right ok.has_right at_second in
     record { at_each = λ point within. resolvent_true interp point ok.left ok.right result i j s ok.resolves (left.at_each point within) (right.at_each point within) }
+steps_are_sound interp Tidy current first second result is at_current at_first at_second ok = tidied_holds interp current result is ok at_current

@@ -1,27 +1,21 @@
-//! The steps of a derivation, the names of recorded clauses, and what makes a step right.
+//! The steps of a derivation, and what makes a step right.
 //!
 //! This crate and `specs/Steps.antt` are all that a reader has to trust of inference: whatever a derivation
 //! claims is accepted by [`step_ok`] or not at all, and what it accepts is sound ([`steps_are_sound`]). It
 //! asks nothing of how a step was found.
 #![tactic(auto)]
 
-ghost use Rattle.std.specs.Prelude.{◌≡◌, ◌↔◌, ◌<◌, ◌++◌, List, length, remove, IsTrue, IfSome, IfNone};
+ghost use Rattle.std.specs.Prelude.{◌≡◌, ◌↔◌, ◌<◌, ◌++◌, List, None, length, remove, IsTrue, IfSome, IfNone, IfOk, OnOk};
 ghost use Rattle.std.specs.Option.{option_copied};
 ghost use Rattle.cd_clause.specs.declared.Literal.{Literal};
-ghost use Rattle.cd_steps.specs.Steps.{StepOk, Resolves, AreComplementary, StepsAreSound};
+ghost use Rattle.cd_clause.specs.declared.Clause.{Clause};
+ghost use Rattle.cd_steps.specs.Steps.{StepOk, Resolves, AreComplementary, TidiesIfAny, IsGiven, resolvent_of, StepsAreSound, StepsGiveOne};
 
-use cd_clause::{Clause, Literal, Subst};
+use cd_clause::{Clause, Literal, Literals, is_tidied, tidy};
 use cd_list::{Copied, Equals, Sequence, strip_items};
+use cd_names::Name;
+use cd_term::Subst;
 use std::alloc::{AllocError, Global};
-
-/// The name of a recorded clause: the peer that recorded it, and how many it had recorded before.
-#[derive(Clone, Copy, Debug, PartialEq, Eq)]
-pub struct Name {
-    pub peer: u16,
-    pub seq: u32,
-}
-
-pub type Names = Sequence<Name>;
 
 /// One step of a derivation. Places of literals count from 0.
 #[derive(Drop)]
@@ -39,21 +33,11 @@ pub enum Step {
         j: u16,
         subst: Subst,
     },
+    /// The clause before it, without what makes no difference.
+    Tidy,
 }
 
 pub type Steps = Sequence<Step>;
-
-impl Copied for Name {
-    fn copy(&self, _alloc: Global) -> Result<Name, AllocError> {
-        Ok(*self)
-    }
-}
-
-impl Equals for Name {
-    fn equals(&self, other: &Name) -> bool {
-        self.peer == other.peer && self.seq == other.seq
-    }
-}
 
 impl Copied for Step {
     fn copy(&self, alloc: Global) -> Result<Step, AllocError> {
@@ -64,15 +48,15 @@ impl Copied for Step {
                 i,
                 neg,
                 j,
-                subst: _,
+                subst,
             } => Ok(Step::Resolve {
                 pos: *pos,
                 i: *i,
                 neg: *neg,
                 j: *j,
-                // A list of terms is empty, since there are none.
-                subst: Sequence::new(alloc),
+                subst: subst.copy(alloc)?,
             }),
+            Step::Tidy => Ok(Step::Tidy),
         }
     }
 }
@@ -89,7 +73,6 @@ pub fn step_ok(
 ) -> bool
     ensures { IsTrue result ↔ StepOk step.now (option_copied current.entry) (option_copied first.entry) (option_copied second.entry) conclusion.now }
 {
-    let _ = current;
     match step {
         Step::Input { index: _ } => is_clause(first, conclusion),
         Step::Resolve {
@@ -109,6 +92,16 @@ pub fn step_ok(
             ),
             _ => false,
         },
+        Step::Tidy => tidies(current, conclusion),
+    }
+}
+
+fn tidies(current: Option<&Clause>, conclusion: &Clause) -> bool
+    ensures { IsTrue result ↔ TidiesIfAny (option_copied current.entry) conclusion.now }
+{
+    match current {
+        Some(clause) => is_tidied(clause, conclusion),
+        None => false,
     }
 }
 
@@ -196,7 +189,122 @@ fn strip_without<'a>(
     }
 }
 
+/// The literals of `a` but the one in place `i`, and then those of `b` but the one in place `j`.
+pub fn resolvent(
+    alloc: Global,
+    a: &Clause,
+    i: usize,
+    b: &Clause,
+    j: usize,
+) -> Result<Clause, AllocError>
+    requires in_a { i < length a.now.literals }
+    requires in_b { j < length b.now.literals }
+    ensures { IfOk result (λ c. c ≡ resolvent_of a.now i b.now j) }
+{
+    let mut literals = Sequence::new(alloc);
+    add_without(alloc, &mut literals, a.literals.as_slice(), i)?;
+    add_without(alloc, &mut literals, b.literals.as_slice(), j)?;
+    Ok(Clause { literals })
+}
+
+fn add_without(
+    alloc: Global,
+    into: &mut Literals,
+    literals: &[Literal],
+    skip: usize,
+) -> Result<(), AllocError>
+    requires { skip < length literals.now }
+    ensures { OnOk result (into.new ≡ into.old ++ remove literals.now skip) }
+{
+    let (front, _) = literals.split_at(skip);
+    add(alloc, into, front)?;
+    let (_, back) = literals.split_at(skip + 1);
+    add(alloc, into, back)
+}
+
+fn add(alloc: Global, into: &mut Literals, literals: &[Literal]) -> Result<(), AllocError>
+    ensures { OnOk result (into.new ≡ into.old ++ literals.now) }
+{
+    for literal in literals {
+        into.push(literal.copy(alloc)?)?;
+    }
+    Ok(())
+}
+
+/// The clause that the step gives of its premises, which are as in [`step_ok`]: the one clause for which
+/// that is true, or `None` where there is none.
+pub fn step_gives(
+    alloc: Global,
+    step: &Step,
+    current: Option<&Clause>,
+    first: Option<&Clause>,
+    second: Option<&Clause>,
+) -> Result<Option<Clause>, AllocError>
+    ensures { IfOk result (λ given. IsGiven step.now (option_copied current.entry) (option_copied first.entry) (option_copied second.entry) given) }
+{
+    match step {
+        Step::Input { index: _ } => copied(alloc, first),
+        Step::Resolve {
+            pos: _,
+            i,
+            neg: _,
+            j,
+            subst,
+        } => match (first, second) {
+            (Some(left), Some(right)) => {
+                resolved(alloc, left, *i as usize, right, *j as usize, subst)
+            }
+            _ => Ok(None),
+        },
+        Step::Tidy => tidied(alloc, current),
+    }
+}
+
+fn copied(alloc: Global, premise: Option<&Clause>) -> Result<Option<Clause>, AllocError>
+    ensures { IfOk result (λ given. given ≡ option_copied premise.entry) }
+{
+    match premise {
+        Some(clause) => Ok(Some(clause.copy(alloc)?)),
+        None => Ok(None),
+    }
+}
+
+fn resolved(
+    alloc: Global,
+    left: &Clause,
+    i: usize,
+    right: &Clause,
+    j: usize,
+    subst: &Subst,
+) -> Result<Option<Clause>, AllocError>
+    ensures some { IfOk result (λ given. IfSome given (Resolves left.now i right.now j subst.now)) }
+    ensures none { IfOk result (λ given. IfNone given ((c : Clause) → Resolves left.now i right.now j subst.now c → ⊥)) }
+{
+    if i >= left.literals.len() || j >= right.literals.len() {
+        return Ok(None);
+    }
+    if !are_complementary(left.literals.get(i), right.literals.get(j)) || !subst.is_empty() {
+        return Ok(None);
+    }
+    Ok(Some(resolvent(alloc, left, i, right, j)?))
+}
+
+fn tidied(alloc: Global, premise: Option<&Clause>) -> Result<Option<Clause>, AllocError>
+    ensures some { IfOk result (λ given. IfSome given (TidiesIfAny (option_copied premise.entry))) }
+    ensures none { IfOk result (λ given. IfNone given (option_copied premise.entry ≡ None)) }
+{
+    match premise {
+        Some(clause) => Ok(Some(tidy(alloc, clause)?)),
+        None => Ok(None),
+    }
+}
+
 /// Right steps are sound.
 pub fn steps_are_sound()
     ensures { StepsAreSound }
+{}
+
+/// A step gives at most one clause of its premises.
+pub fn steps_give_one()
+    ensures { StepsGiveOne }
 {}

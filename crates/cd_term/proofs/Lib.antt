@@ -10,3 +10,5 @@ pub mod Occurrence
 pub mod SizeLaws
 pub mod PathLaws
 pub mod VariableLaws
+pub mod MarkLemmas
+pub mod NumberingLemmas

@@ -1,6 +1,6 @@
 -- Terms as trees: sizes, variables, substitution and places.
 use Rattle.std.specs.List.{list_any, flat_map}
-use Rattle.std.specs.Prelude.{ℕ, Bool, nat_eq, ◌≡◌, ◌+◌, ◌≤◌, max, List, [], ◌∷◌, ◌++◌, map, sum, sum_by, suc, Option, Some, None, slice_get, slice_index, slice_set, unwrap_or, if◌then◌else◌, option_and_then, option_map}
+use Rattle.std.specs.Prelude.{ℕ, Bool, nat_eq, nat_lt, ◌≡◌, ◌+◌, ◌≤◌, max, List, [], ◌∷◌, ◌++◌, map, sum, sum_by, suc, Option, Some, None, slice_get, slice_index, slice_set, unwrap_or, if◌then◌else◌, option_and_then, option_map}
 use Rattle.cd_term.specs.declared.Term.{Term, fold-Term, out-Term}
 use Rattle.cd_term.specs.declared.Term.TheVariants.{Var, App}
 use Rattle.cd_term.specs.declared.Term.TheOpen.{Term-F}
@@ -161,3 +161,19 @@ unranked order k = Var (slice_index order k)
 -- terms with their variables renamed to 0, 1, 2 and so on in the order of first occurrence
 abbrev pub renumbered : List Term → List Term
 renumbered ts = map (substituted (ranked (order_of ts))) ts
+
+-- the term with its variables renamed by a function
+abbrev pub renamed_by : (ℕ → ℕ) → Term → Term
+renamed_by p = substituted (λ n. Var (p n))
+
+-- the term with one variable renamed to 1 and each other one to 0: its shape, and where the variable stands
+abbrev pub mark : ℕ → ℕ → Term
+mark k n = Var (if nat_eq n k then 1 else 0)
+
+abbrev pub marked : ℕ → Term → Term
+marked k = substituted (mark k)
+
+-- the first number of a list that isn't below n
+abbrev pub first_from : ℕ → List ℕ → Option ℕ
+first_from n [] = None
+first_from n (m ∷ ms) = if nat_lt m n then first_from n ms else Some m

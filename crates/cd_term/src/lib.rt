@@ -11,6 +11,7 @@ ghost use Rattle.std.specs.Prelude.{◌≡◌};
 
 pub mod laws;
 mod limits;
+mod marks;
 mod path;
 mod places;
 mod renaming;
@@ -19,6 +20,7 @@ mod substitution;
 
 use cd_list::{Copied, Equals, Sequence};
 pub use limits::{MAX_LEVELS, MAX_SYMBOLS, measure, measure_all};
+pub use marks::{beside, beside_all, same_places, same_places_all};
 pub use path::Path;
 pub use places::{at, replace};
 pub use renaming::{note_variables, rank_of, renamed};

@@ -5,7 +5,8 @@
 ghost use Rattle.std.specs.Prelude.{◌≤◌, length, IfOk};
 
 use crate::{
-    Args, Path, Subst, Term, apply, at, depth, note_variables, renamed, replace, size, substitute,
+    Args, Path, Subst, Term, apply, at, beside, depth, note_variables, renamed, replace,
+    same_places, size, substitute,
 };
 use cd_list::{Copied, Equals, Sequence};
 use std::alloc::{AllocError, Global};
@@ -102,5 +103,18 @@ fn variables_are_renamed_in_order(rt: HostRuntime) -> Result<(), Fail> {
     assert_eq!(rt; order.len(), 2);
     let wanted = pair(alloc, Term::Var(0), Term::Var(1))?;
     assert!(rt; renamed(alloc, &term, order.as_slice())?.equals(&wanted));
+    Ok(())
+}
+
+#[test]
+fn places_of_variables_are_compared(rt: HostRuntime) -> Result<(), Fail> {
+    let alloc = rt.alloc();
+    let term = pair(alloc, Term::Var(9), Term::Var(3))?;
+    let other = pair(alloc, Term::Var(0), Term::Var(1))?;
+    assert!(rt; same_places(&term, 9, &other, 0));
+    assert!(rt; !same_places(&term, 9, &other, 1));
+    assert!(rt; beside(&term, &other, 0).equals(&Some(9)));
+    assert!(rt; beside(&term, &other, 1).equals(&Some(3)));
+    assert!(rt; beside(&term, &other, 2).is_none());
     Ok(())
 }

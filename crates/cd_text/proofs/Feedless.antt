@@ -1,27 +1,33 @@
 -- What is printed has no line feed.
-use Rattle.std.proofs.Common.{◌≡◌, ℕ, ◌+◌, ◌^◌, ◌<◌, ◌%◌, ◌==◌, Bool, true, false, not, ◌&&◌, ◌||◌, cond, List, [], ◌∷◌, ◌++◌, codes, decimal, refl, ap, ◌∙◌, arith, Option, Some, None, slice_get}
+use Rattle.std.proofs.Common.{◌≡◌, ℕ, ◌+◌, ◌^◌, ◌<◌, ◌%◌, ◌==◌, Bool, true, false, not, ◌&&◌, ◌||◌, cond, List, [], ◌∷◌, ◌++◌, codes, decimal, map, refl, ap, ◌∙◌, subst, arith, Option, Some, None, slice_get}
 use Rattle.std.specs.List.{flat_map, list_all, AllByRecursion}
 use Rattle.std.proofs.lemmas.Bool.Decides.{nat_tests}
 use Rattle.std.proofs.lemmas.List.Concat.{flat_map-cons}
 use Rattle.std.proofs.lemmas.Fmt.{decimal_by_steps}
-use Rattle.cd_clause.specs.declared.Term.{Term}
+use Rattle.cd_term.specs.declared.Term.{Term}
+use Rattle.cd_term.specs.declared.Term.TheVariants.{Var, App}
+use Rattle.cd_term.specs.Terms.{greatest, bound_of}
+use Rattle.cd_term.proofs.TermInduction.{ind, Each}
+use Rattle.cd_term.proofs.Equations.{bound_of-Var, bound_of-App}
 use Rattle.cd_clause.specs.declared.Atom.{Atom}
-use Rattle.cd_clause.specs.declared.Atom.TheVariants.{Pred}
+use Rattle.cd_clause.specs.declared.Atom.TheVariants.{Truth, Pred, Equal}
 use Rattle.cd_clause.specs.declared.Literal.{Literal}
+use Rattle.cd_clause.specs.Clauses.{terms_of, clause_terms}
 use Rattle.cd_steps.specs.declared.Step.{Step}
-use Rattle.cd_steps.specs.declared.Step.TheVariants.{Input, Resolve}
+use Rattle.cd_steps.specs.declared.Step.TheVariants.{Input, Resolve, Tidy}
 use Rattle.cd_symbols.specs.Symbol.{Symbol}
 use Rattle.cd_read.specs.declared.problem.Label.TheVariants.{Word}
 use Rattle.cd_read.specs.declared.problem.Role.{Role}
 use Rattle.cd_read.specs.declared.problem.Role.TheVariants.{Axiom}
 use Rattle.cd_read.specs.Words.{is_word, is_word_byte}
 use Rattle.cd_read.proofs.WordsLemmas.{both, word_all}
+use Rattle.cd_text.proofs.TermTexts.{variable_text, application_text}
 use Rattle.cd_text.specs.declared.line.LineRole.{LineRole}
 use Rattle.cd_text.specs.declared.line.LineRole.TheVariants.{Given, Plain}
 use Rattle.cd_text.specs.declared.line.LineSource.{LineSource}
 use Rattle.cd_text.specs.declared.line.LineSource.TheVariants.{File, Inference}
-use Rattle.cd_text.specs.Texts.{is_printable, shown, shown_byte, quoted, quoted_byte, word_text, joined, symbol_text, atom_text, literal_text, literals_text, clause_text, term_text, given_text, role_text, name_text, rule_text, source_text, line_text}
-use Rattle.cd_text.specs.Feeds.{feedless, StepFits, SourceFits, PrintedWordsHaveNoFeed, PrintedLabelsHaveNoFeed, PrintedClausesHaveNoFeed, PrintedLinesHaveNoFeed}
+use Rattle.cd_text.specs.Texts.{is_printable, shown, shown_byte, quoted, quoted_byte, word_text, joined, symbol_text, arguments_text, signed_text, literal_text, literals_text, clause_text, term_text, given_text, role_text, name_text, rule_text, source_text, line_text}
+use Rattle.cd_text.specs.Feeds.{feedless, TermsFit, StepFits, SourceFits, PrintedWordsHaveNoFeed, PrintedLabelsHaveNoFeed, PrintedClausesHaveNoFeed, PrintedLinesHaveNoFeed}
 
 step : (b c d e : Bool) → e ≡ (c && d) → (b && e) ≡ ((b && c) && d)
 step true c d e h = h
@@ -94,33 +100,101 @@ joined_feedless between text [] b each = refl
 joined_feedless between text (x ∷ []) b each = each.0
 joined_feedless between text (x ∷ y ∷ ys) b each = simp (feedless-append, each.0, b, joined_feedless between text (y ∷ ys) b each.1)
 
--- ---- clauses
+-- ---- terms
 
 symbol_feedless : (s : Option Symbol) → feedless (symbol_text s) ≡ true
 symbol_feedless (Some s) = word_feedless s.text
 symbol_feedless None = refl
 
-atom_feedless : (symbols : List Symbol) (a : Atom) → feedless (atom_text symbols a) ≡ true
-atom_feedless symbols (Pred n) = symbol_feedless (slice_get symbols n)
+arguments_feedless : (texts : List (List ℕ)) → AllByRecursion (λ x. feedless x ≡ true) texts → feedless (arguments_text texts) ≡ true
+arguments_feedless [] each = refl
+arguments_feedless (t ∷ ts) each = simp (feedless-append, joined_feedless (codes ",") (λ text. text) (t ∷ ts) refl each)
 
-signed_by : (sign : Bool) (w : List ℕ) → feedless w ≡ true → feedless (cond sign [] (126 ∷ []) ++ w) ≡ true
-signed_by true w h = h
-signed_by false w h = h
+-- a term whose variables have numbers that fit
+IsFeedless : List Symbol → Term → Type 0
+IsFeedless symbols t = bound_of t < 2 ^ 64 → feedless (term_text symbols t) ≡ true
 
-pub literal_feedless : (symbols : List Symbol) (l : Literal) → feedless (literal_text symbols l) ≡ true
-literal_feedless symbols l = signed_by l.positive (atom_text symbols l.atom) (atom_feedless symbols l.atom)
+variable_feedless : (symbols : List Symbol) (n : ℕ) → IsFeedless symbols (Var n)
+unfolding IsFeedless
+variable_feedless symbols n fits =
+    let small : n < 2 ^ 64 = omega (arith, fits, bound_of-Var n) in
+    ap feedless (variable_text symbols n) ∙ decimal_feedless n small
 
-each_literal : (symbols : List Symbol) (ls : List Literal) → AllByRecursion (λ l. feedless (literal_text symbols l) ≡ true) ls
-each_literal symbols [] = tt
-each_literal symbols (l ∷ ls) = (literal_feedless symbols l, each_literal symbols ls)
+each_argument : (symbols : List Symbol) (ts : List Term) → Each (IsFeedless symbols) ts → greatest (map bound_of ts) < 2 ^ 64 → AllByRecursion (λ x. feedless x ≡ true) (map (term_text symbols) ts)
+unfolding IsFeedless
+each_argument symbols [] each fits = tt
+each_argument symbols (t ∷ ts) each fits =
+    let here : bound_of t < 2 ^ 64 = omega (arith, fits) in
+    let others : greatest (map bound_of ts) < 2 ^ 64 = omega (arith, fits) in
+    (each.0 here, each_argument symbols ts each.1 others)
 
-literals_feedless : (symbols : List Symbol) (ls : List Literal) → feedless (literals_text symbols ls) ≡ true
-literals_feedless symbols [] = refl
-literals_feedless symbols (l ∷ ls) = simp (feedless-append, joined_feedless (codes " | ") (literal_text symbols) (l ∷ ls) refl (each_literal symbols (l ∷ ls)))
+application_feedless : (symbols : List Symbol) (f : ℕ) (ts : List Term) → Each (IsFeedless symbols) ts → IsFeedless symbols (App f ts)
+unfolding IsFeedless
+application_feedless symbols f ts each fits =
+    let small : greatest (map bound_of ts) < 2 ^ 64 = omega (arith, fits, bound_of-App f ts) in
+    let args = map (term_text symbols) ts in
+    let word = symbol_text (slice_get symbols f) in
+    ap feedless (application_text symbols f ts) ∙ feedless-append word (arguments_text args)
+    ∙ rw (symbol_feedless (slice_get symbols f), arguments_feedless args (each_argument symbols ts each small)) refl
+
+pub term_feedless : (symbols : List Symbol) (t : Term) → bound_of t < 2 ^ 64 → feedless (term_text symbols t) ≡ true
+unfolding IsFeedless
+term_feedless symbols = ind (IsFeedless symbols) (variable_feedless symbols) (application_feedless symbols)
+
+each_term : (symbols : List Symbol) (ts : List Term) → TermsFit ts → AllByRecursion (λ t. feedless (term_text symbols t) ≡ true) ts
+each_term symbols [] fit = tt
+each_term symbols (t ∷ ts) fit = (term_feedless symbols t fit.0, each_term symbols ts fit.1)
+
+terms_feedless : (symbols : List Symbol) (ts : List Term) → TermsFit ts → feedless (joined (codes ",") (term_text symbols) ts) ≡ true
+terms_feedless symbols ts fit = joined_feedless (codes ",") (term_text symbols) ts refl (each_term symbols ts fit)
+
+each_text : (symbols : List Symbol) (ts : List Term) → TermsFit ts → AllByRecursion (λ x. feedless x ≡ true) (map (term_text symbols) ts)
+each_text symbols [] fit = tt
+each_text symbols (t ∷ ts) fit = (term_feedless symbols t fit.0, each_text symbols ts fit.1)
+
+-- ---- clauses
+
+predicate_feedless : (symbols : List Symbol) (p : ℕ) (args : List Term) → TermsFit args → feedless (symbol_text (slice_get symbols p) ++ arguments_text (map (term_text symbols) args)) ≡ true
+predicate_feedless symbols p args fit =
+    let texts = map (term_text symbols) args in
+    feedless-append (symbol_text (slice_get symbols p)) (arguments_text texts)
+    ∙ rw (symbol_feedless (slice_get symbols p), arguments_feedless texts (each_text symbols args fit)) refl
+
+equation_feedless : (between left right : List ℕ) → feedless between ≡ true → feedless left ≡ true → feedless right ≡ true → feedless (left ++ (between ++ right)) ≡ true
+equation_feedless between left right b l r = simp (feedless-append, b, l, r)
+
+signed_feedless : (symbols : List Symbol) (positive : Bool) (a : Atom) → TermsFit (terms_of a) → feedless (signed_text symbols positive a) ≡ true
+signed_feedless symbols true Truth fit = refl
+signed_feedless symbols false Truth fit = refl
+signed_feedless symbols true (Pred p args) fit = predicate_feedless symbols p args fit
+signed_feedless symbols false (Pred p args) fit = predicate_feedless symbols p args fit
+signed_feedless symbols true (Equal s t) fit = equation_feedless (codes " = ") (term_text symbols s) (term_text symbols t) refl (term_feedless symbols s fit.0) (term_feedless symbols t fit.1.0)
+signed_feedless symbols false (Equal s t) fit = equation_feedless (codes " != ") (term_text symbols s) (term_text symbols t) refl (term_feedless symbols s fit.0) (term_feedless symbols t fit.1.0)
+
+pub literal_feedless : (symbols : List Symbol) (l : Literal) → TermsFit (terms_of l.atom) → feedless (literal_text symbols l) ≡ true
+literal_feedless symbols l fit = signed_feedless symbols l.positive l.atom fit
+
+left_fit : (ts us : List Term) → TermsFit (ts ++ us) → TermsFit ts
+left_fit [] us fit = tt
+left_fit (t ∷ ts) us fit = (fit.0, left_fit ts us fit.1)
+
+right_fit : (ts us : List Term) → TermsFit (ts ++ us) → TermsFit us
+right_fit [] us fit = fit
+right_fit (t ∷ ts) us fit = right_fit ts us fit.1
+
+each_literal : (symbols : List Symbol) (ls : List Literal) → TermsFit (clause_terms ls) → AllByRecursion (λ l. feedless (literal_text symbols l) ≡ true) ls
+each_literal symbols [] fit = tt
+each_literal symbols (l ∷ ls) fit =
+    let both_fit = subst TermsFit (flat_map-cons (λ (m : Literal). terms_of m.atom) l ls) fit in
+    (literal_feedless symbols l (left_fit (terms_of l.atom) (clause_terms ls) both_fit), each_literal symbols ls (right_fit (terms_of l.atom) (clause_terms ls) both_fit))
+
+literals_feedless : (symbols : List Symbol) (ls : List Literal) → TermsFit (clause_terms ls) → feedless (literals_text symbols ls) ≡ true
+literals_feedless symbols [] fit = refl
+literals_feedless symbols (l ∷ ls) fit = simp (feedless-append, joined_feedless (codes " | ") (literal_text symbols) (l ∷ ls) refl (each_literal symbols (l ∷ ls) fit))
 
 pub clause_feedless : PrintedClausesHaveNoFeed
 unfolding clause_text
-clause_feedless symbols c = literals_feedless symbols c.literals
+clause_feedless symbols c fit = literals_feedless symbols c.literals fit
 
 -- ---- lines
 
@@ -134,14 +208,11 @@ role_feedless Plain = refl
 pub name_feedless : (n : ℕ) → n < 2 ^ 64 → feedless (name_text n) ≡ true
 name_feedless n fits = decimal_feedless n fits
 
-terms_feedless : (symbols : List Symbol) (ts : List Term) → feedless (joined (codes ",") (term_text symbols) ts) ≡ true
-terms_feedless symbols [] = refl
-terms_feedless symbols (t ∷ ts) = elim t [ ]
-
 rule_feedless : (symbols : List Symbol) (s : Step) → StepFits s → feedless (rule_text symbols s) ≡ true
 unfolding rule_text
 rule_feedless symbols (Input index) fits = refl
-rule_feedless symbols (Resolve pos i neg j subst) fits = simp (feedless-append, decimal_feedless i fits.0, decimal_feedless j fits.1, terms_feedless symbols subst)
+rule_feedless symbols (Resolve pos i neg j values) fits = simp (feedless-append, decimal_feedless i fits.0, decimal_feedless j fits.1, terms_feedless symbols values fits.2)
+rule_feedless symbols Tidy fits = refl
 
 each_name : (ns : List ℕ) → AllByRecursion (λ n. n < 2 ^ 64) ns → AllByRecursion (λ n. feedless (name_text n) ≡ true) ns
 each_name [] fit = tt
@@ -156,4 +227,4 @@ source_feedless symbols (Inference step parents) fits =
 pub line_feedless : PrintedLinesHaveNoFeed
 unfolding line_text
 line_feedless symbols l fits =
-    simp (feedless-append, decimal_feedless l.number fits.number, role_feedless l.role, clause_feedless symbols l.clause, source_feedless symbols l.source fits.source)
+    simp (feedless-append, decimal_feedless l.number fits.number, role_feedless l.role, clause_feedless symbols l.clause fits.clause, source_feedless symbols l.source fits.source)

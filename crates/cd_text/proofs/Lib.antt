@@ -1,3 +1,4 @@
 pub mod Joined
+pub mod TermTexts
 pub mod Feedless
 pub mod Fronts

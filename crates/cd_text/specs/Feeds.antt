@@ -1,9 +1,12 @@
 -- Texts without a line feed, and that what is printed has none.
 use Rattle.std.specs.Prelude.{◌≡◌, ℕ, ◌<◌, ◌^◌, Bool, true, not, ◌&&◌, ◌==◌, List, [], ◌∷◌}
 use Rattle.std.specs.List.{AllByRecursion}
+use Rattle.cd_term.specs.declared.Term.{Term}
+use Rattle.cd_term.specs.Terms.{bound_of}
 use Rattle.cd_clause.specs.declared.Clause.{Clause}
+use Rattle.cd_clause.specs.Clauses.{clause_terms}
 use Rattle.cd_steps.specs.declared.Step.{Step}
-use Rattle.cd_steps.specs.declared.Step.TheVariants.{Input, Resolve}
+use Rattle.cd_steps.specs.declared.Step.TheVariants.{Input, Resolve, Tidy}
 use Rattle.cd_symbols.specs.Symbol.{Symbol}
 use Rattle.cd_read.specs.declared.problem.Label.{Label}
 use Rattle.cd_text.specs.declared.line.Line.{Line}
@@ -18,9 +21,16 @@ feedless (b ∷ bs) = not (b == 10) && feedless bs
 
 -- ---- the numbers of a line are those that code can hold
 
+abbrev pub TermsFit : List Term → Type 0
+TermsFit ts = AllByRecursion (λ t. bound_of t < 2 ^ 64) ts
+
+abbrev pub ClauseFits : Clause → Type 0
+ClauseFits c = TermsFit (clause_terms c.literals)
+
 abbrev pub StepFits : Step → Type 0
 StepFits (Input index) = Unit {0}
-StepFits (Resolve pos i neg j subst) = (i < 2 ^ 64) × (j < 2 ^ 64)
+StepFits (Resolve pos i neg j subst) = (i < 2 ^ 64) × (j < 2 ^ 64) × TermsFit subst
+StepFits Tidy = Unit {0}
 
 abbrev pub SourceFits : LineSource → Type 0
 SourceFits (File path label) = Unit {0}
@@ -28,6 +38,7 @@ SourceFits (Inference step parents) = StepFits step × AllByRecursion (λ n. n <
 
 pub record LineFits (l : Line) : Type 0 where
   pub number : l.number < 2 ^ 64
+  pub clause : ClauseFits l.clause
   pub source : SourceFits l.source
 
 -- ---- laws
@@ -40,7 +51,7 @@ abbrev pub PrintedLabelsHaveNoFeed : Type 0
 PrintedLabelsHaveNoFeed = (label : Label) → feedless (label_text label) ≡ true
 
 abbrev pub PrintedClausesHaveNoFeed : Type 0
-PrintedClausesHaveNoFeed = (symbols : List Symbol) (c : Clause) → feedless (clause_text symbols c) ≡ true
+PrintedClausesHaveNoFeed = (symbols : List Symbol) (c : Clause) → ClauseFits c → feedless (clause_text symbols c) ≡ true
 
 abbrev pub PrintedLinesHaveNoFeed : Type 0
 PrintedLinesHaveNoFeed = (symbols : List Symbol) (l : Line) → LineFits l → feedless (line_text symbols l) ≡ true

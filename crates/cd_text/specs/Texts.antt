@@ -1,13 +1,15 @@
 -- The printed texts of words, clauses and derivation lines.
-use Rattle.std.specs.Prelude.{ℕ, Bool, ◌&&◌, ◌||◌, ◌==◌, nat_le, if◌then◌else◌, List, [], ◌∷◌, ◌++◌, map, codes, decimal, Option, None, Some, slice_get}
+use Rattle.std.specs.Prelude.{ℕ, Bool, ◌&&◌, ◌||◌, ◌==◌, true, false, nat_le, if◌then◌else◌, List, [], ◌∷◌, ◌++◌, map, codes, decimal, Option, None, Some, slice_get}
 use Rattle.std.specs.List.{flat_map}
-use Rattle.cd_clause.specs.declared.Term.{Term}
+use Rattle.cd_term.specs.declared.Term.{Term, fold-Term}
+use Rattle.cd_term.specs.declared.Term.TheOpen.{Term-F}
+use Rattle.cd_term.specs.declared.Term.TheOpen as layer
 use Rattle.cd_clause.specs.declared.Atom.{Atom}
-use Rattle.cd_clause.specs.declared.Atom.TheVariants.{Pred}
+use Rattle.cd_clause.specs.declared.Atom.TheVariants.{Truth, Pred, Equal}
 use Rattle.cd_clause.specs.declared.Literal.{Literal}
 use Rattle.cd_clause.specs.declared.Clause.{Clause}
 use Rattle.cd_steps.specs.declared.Step.{Step}
-use Rattle.cd_steps.specs.declared.Step.TheVariants.{Input, Resolve}
+use Rattle.cd_steps.specs.declared.Step.TheVariants.{Input, Resolve, Tidy}
 use Rattle.cd_symbols.specs.Symbol.{Symbol}
 use Rattle.cd_read.specs.declared.problem.Label.{Label}
 use Rattle.cd_read.specs.declared.problem.Label.TheVariants.{Word}
@@ -55,11 +57,30 @@ abbrev pub symbol_text : Option Symbol → List ℕ
 symbol_text (Some s) = word_text s.text
 symbol_text None = []
 
-abbrev pub atom_text : List Symbol → Atom → List ℕ
-atom_text symbols (Pred n) = symbol_text (slice_get symbols n)
+-- the texts of arguments between parentheses, with commas; a constant has none
+abbrev pub arguments_text : List (List ℕ) → List ℕ
+arguments_text [] = []
+arguments_text (t ∷ ts) = codes "(" ++ (joined (codes ",") (λ text. text) (t ∷ ts) ++ codes ")")
+
+-- a variable is X and its number, a symbol its word and its arguments
+abbrev pub term_step : List Symbol → Term-F (List ℕ) → List ℕ
+term_step symbols (layer.Var n) = codes "X" ++ decimal n
+term_step symbols (layer.App f texts) = symbol_text (slice_get symbols f) ++ arguments_text texts
+
+abbrev pub term_text : List Symbol → Term → List ℕ
+term_text symbols = fold-Term (List ℕ) (term_step symbols)
+
+-- a literal by its sign and its atom
+abbrev pub signed_text : List Symbol → Bool → Atom → List ℕ
+signed_text symbols true Truth = codes "$true"
+signed_text symbols false Truth = codes "$false"
+signed_text symbols true (Pred p args) = symbol_text (slice_get symbols p) ++ arguments_text (map (term_text symbols) args)
+signed_text symbols false (Pred p args) = codes "~" ++ (symbol_text (slice_get symbols p) ++ arguments_text (map (term_text symbols) args))
+signed_text symbols true (Equal s t) = term_text symbols s ++ (codes " = " ++ term_text symbols t)
+signed_text symbols false (Equal s t) = term_text symbols s ++ (codes " != " ++ term_text symbols t)
 
 abbrev pub literal_text : List Symbol → Literal → List ℕ
-literal_text symbols l = (if l.positive then [] else codes "~") ++ atom_text symbols l.atom
+literal_text symbols l = signed_text symbols l.positive l.atom
 
 abbrev pub literals_text : List Symbol → List Literal → List ℕ
 literals_text symbols [] = codes "$false"
@@ -67,10 +88,6 @@ literals_text symbols (l ∷ ls) = codes "(" ++ (joined (codes " | ") (literal_t
 
 unfoldable pub clause_text : List Symbol → Clause → List ℕ
 clause_text symbols c = literals_text symbols c.literals
-
--- there are no terms so far
-abbrev pub term_text : List Symbol → Term → List ℕ
-term_text symbols t = elim t [ ]
 
 -- ---- derivation lines
 
@@ -93,6 +110,7 @@ unfoldable pub rule_text : List Symbol → Step → List ℕ
 rule_text symbols (Input index) = []
 rule_text symbols (Resolve pos i neg j subst) =
     codes "resolve,[status(thm),at(" ++ (decimal i ++ (codes "," ++ (decimal j ++ (codes "),subst([" ++ (joined (codes ",") (term_text symbols) subst ++ codes "])]")))))
+rule_text symbols Tidy = codes "tidy,[status(thm)]"
 
 unfoldable pub source_text : List Symbol → LineSource → List ℕ
 source_text symbols (File path label) = codes "file(" ++ (quoted path ++ (codes "," ++ (label_text label ++ codes ")")))

@@ -1,21 +1,22 @@
 //! Literals and clauses.
-ghost use Rattle.std.specs.Prelude.{◌≡◌, ◌++◌, ◌∷◌, codes, OnOk, OnErr};
-ghost use Rattle.std.specs.List.{flat_map, AllByRecursion};
-ghost use Rattle.cd_read.specs.Problems.{AtomFormed, ClauseFormed};
+ghost use Rattle.std.specs.Prelude.{◌≡◌, ◌++◌, ◌∷◌, if◌then◌else◌, codes, map, slice_get, OnOk, OnErr};
+ghost use Rattle.std.specs.List.{flat_map};
 ghost use Rattle.cd_text.specs.Fronts.{KeepsFront};
-ghost use Rattle.cd_text.specs.Texts.{atom_text, clause_text, joined, literal_text};
+ghost use Rattle.cd_text.specs.Texts.{arguments_text, clause_text, joined, literal_text, symbol_text, term_text};
 
-use crate::words::{put_bytes, put_word};
+use crate::terms::{put_arguments, put_symbol, put_term};
+use crate::words::put_bytes;
 use cd_clause::{Atom, Clause, Literal};
 use cd_outside::Bytes;
 use cd_symbols::Symbols;
+use cd_term::Term;
 use std::alloc::AllocError;
 
 /// Appends a clause as it is printed: `$false` for the empty clause, and else its literals between parentheses,
-/// joined by bars (TPTP; Sutcliffe, The TPTP World, 2010). Where memory runs out, `into` is as it was.
+/// joined by bars (TPTP; Sutcliffe, The TPTP World, 2010). Variable `k` is printed as `X` and `k`; a symbol that
+/// isn't in the table has no word. Where memory runs out, `into` is as it was.
 #[tactic(auto, using(crate::proofs::Fronts::kept_front))]
 pub fn clause_text(symbols: &Symbols, c: &Clause, into: &mut Bytes) -> Result<(), AllocError>
-    requires { ClauseFormed symbols.now c.now }
     ensures ok { OnOk result (into.new ≡ into.old ++ clause_text symbols.now c.now) }
     ensures err { OnErr result (into.new ≡ into.old) }
 {
@@ -31,7 +32,6 @@ pub fn clause_text(symbols: &Symbols, c: &Clause, into: &mut Bytes) -> Result<()
 
 #[tactic(auto, using(std::proofs::Common::append_assoc), unfolding(crate::specs::Texts::clause_text))]
 pub(crate) fn put_clause(symbols: &Symbols, c: &Clause, into: &mut Bytes) -> Result<(), AllocError>
-    requires { ClauseFormed symbols.now c.now }
     ensures text { OnOk result (into.new ≡ into.old ++ clause_text symbols.now c.now) }
     ensures kept { KeepsFront into.old into.new }
 {
@@ -52,8 +52,6 @@ fn put_literals(
     others: &[Literal],
     into: &mut Bytes,
 ) -> Result<(), AllocError>
-    requires first { AtomFormed symbols.now first.now.atom }
-    requires others { AllByRecursion (λ l. AtomFormed symbols.now l.atom) others.now }
     ensures text { OnOk result (into.new ≡ into.old ++ joined (codes " | ") (literal_text symbols.now) (first.now ∷ others.now)) }
     ensures kept { KeepsFront into.old into.new }
 {
@@ -63,7 +61,6 @@ fn put_literals(
 
 #[tactic(auto, using(std::proofs::Common::append_assoc))]
 fn put_further(symbols: &Symbols, literals: &[Literal], into: &mut Bytes) -> Result<(), AllocError>
-    requires { AllByRecursion (λ l. AtomFormed symbols.now l.atom) literals.now }
     ensures text { OnOk result (into.new ≡ into.old ++ flat_map (λ l. codes " | " ++ literal_text symbols.now l) literals.now) }
     ensures kept { KeepsFront into.old into.new }
 {
@@ -76,24 +73,71 @@ fn put_further(symbols: &Symbols, literals: &[Literal], into: &mut Bytes) -> Res
     Ok(())
 }
 
-#[tactic(auto, using(std::proofs::Common::append_assoc))]
 fn put_literal(symbols: &Symbols, literal: &Literal, into: &mut Bytes) -> Result<(), AllocError>
-    requires { AtomFormed symbols.now literal.now.atom }
     ensures text { OnOk result (into.new ≡ into.old ++ literal_text symbols.now literal.now) }
     ensures kept { KeepsFront into.old into.new }
 {
-    if !literal.positive {
-        put_bytes(into, b"~")?;
+    match &literal.atom {
+        Atom::Truth => put_truth(literal.positive, into),
+        Atom::Pred(p, args) => put_predicate(symbols, literal.positive, *p, args.as_slice(), into),
+        Atom::Equal(left, right) => put_equation(symbols, literal.positive, left, right, into),
     }
-    put_atom(symbols, &literal.atom, into)
 }
 
-fn put_atom(symbols: &Symbols, atom: &Atom, into: &mut Bytes) -> Result<(), AllocError>
-    requires { AtomFormed symbols.now atom.now }
-    ensures text { OnOk result (into.new ≡ into.old ++ atom_text symbols.now atom.now) }
+fn put_truth(positive: bool, into: &mut Bytes) -> Result<(), AllocError>
+    ensures text { OnOk result (into.new ≡ into.old ++ (if positive then codes "$true" else codes "$false")) }
     ensures kept { KeepsFront into.old into.new }
 {
-    match atom {
-        Atom::Pred(symbol) => put_word(into, symbols.text(*symbol).as_bytes()),
+    if positive {
+        put_bytes(into, b"$true")
+    } else {
+        put_bytes(into, b"$false")
+    }
+}
+
+#[tactic(auto, using(std::proofs::Common::append_assoc))]
+fn put_predicate(
+    symbols: &Symbols,
+    positive: bool,
+    p: u16,
+    args: &[Term],
+    into: &mut Bytes,
+) -> Result<(), AllocError>
+    ensures text { OnOk result (into.new ≡ into.old ++ ((if positive then codes "" else codes "~")
+        ++ (symbol_text (slice_get symbols.now p) ++ arguments_text (map (term_text symbols.now) args.now)))) }
+    ensures kept { KeepsFront into.old into.new }
+{
+    if !positive {
+        put_bytes(into, b"~")?;
+    }
+    put_symbol(symbols, p, into)?;
+    put_arguments(symbols, args, into)
+}
+
+#[tactic(auto, using(std::proofs::Common::append_assoc))]
+fn put_equation(
+    symbols: &Symbols,
+    positive: bool,
+    left: &Term,
+    right: &Term,
+    into: &mut Bytes,
+) -> Result<(), AllocError>
+    ensures text { OnOk result (into.new ≡ into.old ++ (term_text symbols.now left.now
+        ++ ((if positive then codes " = " else codes " != ") ++ term_text symbols.now right.now))) }
+    ensures kept { KeepsFront into.old into.new }
+{
+    put_term(symbols, left, into)?;
+    put_relation(positive, into)?;
+    put_term(symbols, right, into)
+}
+
+fn put_relation(positive: bool, into: &mut Bytes) -> Result<(), AllocError>
+    ensures text { OnOk result (into.new ≡ into.old ++ (if positive then codes " = " else codes " != ")) }
+    ensures kept { KeepsFront into.old into.new }
+{
+    if positive {
+        put_bytes(into, b" = ")
+    } else {
+        put_bytes(into, b" != ")
     }
 }

@@ -11,12 +11,13 @@ pub fn printed_labels_have_no_feed()
     ensures { PrintedLabelsHaveNoFeed }
 {}
 
-/// No line feed stands in a printed clause.
+/// No line feed stands in a printed clause whose variables have numbers below 2^64 - 1.
 pub fn printed_clauses_have_no_feed()
     ensures { PrintedClausesHaveNoFeed }
 {}
 
-/// No line feed stands in a printed derivation line whose numbers are below 2^64.
+/// No line feed stands in a printed derivation line whose numbers are below 2^64, and those of its variables
+/// below 2^64 - 1.
 pub fn printed_lines_have_no_feed()
     ensures { PrintedLinesHaveNoFeed }
 {}

@@ -1,4 +1,4 @@
-//! The printed texts of words, clauses and derivation lines, as `specs/Texts.antt` defines them.
+//! The printed texts of words, terms, clauses and derivation lines, as `specs/Texts.antt` defines them.
 //!
 //! What prints appends to a list of bytes. Want of memory is the only fault.
 #![tactic(auto)]
@@ -6,6 +6,7 @@
 mod clauses;
 mod laws;
 mod line;
+mod terms;
 mod words;
 
 pub use clauses::clause_text;

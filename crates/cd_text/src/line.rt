@@ -1,18 +1,19 @@
 //! The lines of a derivation.
 ghost use Rattle.std.specs.Prelude.{◌≡◌, ◌++◌, ◌∷◌, codes, decimal, OnOk, OnErr};
 ghost use Rattle.std.specs.List.{flat_map};
-ghost use Rattle.cd_read.specs.Problems.{ClauseFormed};
 ghost use Rattle.cd_text.specs.Fronts.{KeepsFront};
 ghost use Rattle.cd_text.specs.Texts.{clause_text, given_text, joined, label_text, line_text, name_text, role_text, rule_text, source_text, term_text};
 
 use crate::clauses::put_clause;
+use crate::terms::put_terms;
 use crate::words::{put_bytes, put_number, put_quoted, put_word};
-use cd_clause::{Clause, Term};
+use cd_clause::Clause;
 use cd_list::{Sequence, Text};
 use cd_outside::Bytes;
 use cd_read::{Label, Role};
 use cd_steps::Step;
 use cd_symbols::Symbols;
+use cd_term::Term;
 use std::alloc::AllocError;
 
 /// The numbers of the lines that a line stands on.
@@ -47,7 +48,6 @@ pub type Lines = Sequence<Line>;
 /// Appends a derivation line as it is printed, without a line feed. Where memory runs out, `into` is as it was.
 #[tactic(auto, using(crate::proofs::Fronts::kept_front))]
 pub fn line_text(symbols: &Symbols, line: &Line, into: &mut Bytes) -> Result<(), AllocError>
-    requires { ClauseFormed symbols.now line.now.clause }
     ensures ok { OnOk result (into.new ≡ into.old ++ line_text symbols.now line.now) }
     ensures err { OnErr result (into.new ≡ into.old) }
 {
@@ -63,7 +63,6 @@ pub fn line_text(symbols: &Symbols, line: &Line, into: &mut Bytes) -> Result<(),
 
 #[tactic(auto, using(std::proofs::Common::append_assoc), unfolding(crate::specs::Texts::line_text))]
 fn put_line(symbols: &Symbols, line: &Line, into: &mut Bytes) -> Result<(), AllocError>
-    requires { ClauseFormed symbols.now line.now.clause }
     ensures text { OnOk result (into.new ≡ into.old ++ line_text symbols.now line.now) }
     ensures kept { KeepsFront into.old into.new }
 {
@@ -78,7 +77,6 @@ fn put_line(symbols: &Symbols, line: &Line, into: &mut Bytes) -> Result<(), Allo
 // The clause of a line, its source, and what ends it.
 #[tactic(auto, using(std::proofs::Common::append_assoc))]
 fn put_body(symbols: &Symbols, line: &Line, into: &mut Bytes) -> Result<(), AllocError>
-    requires { ClauseFormed symbols.now line.now.clause }
     ensures text { OnOk result (into.new ≡ into.old ++ (clause_text symbols.now line.now.clause
         ++ (codes "," ++ (source_text symbols.now line.now.source ++ codes ").")))) }
     ensures kept { KeepsFront into.old into.new }
@@ -170,6 +168,7 @@ fn put_rule(symbols: &Symbols, step: &Step, into: &mut Bytes) -> Result<(), Allo
             )?;
             put_subst(symbols, subst.as_slice(), into)
         }
+        Step::Tidy => put_bytes(into, b"tidy,[status(thm)]"),
     }
 }
 
@@ -194,17 +193,6 @@ fn put_subst(symbols: &Symbols, subst: &[Term], into: &mut Bytes) -> Result<(), 
     put_bytes(into, b"),subst([")?;
     put_terms(symbols, subst, into)?;
     put_bytes(into, b"])]")
-}
-
-// Terms with commas between them. As there are no terms so far, there are none in the list.
-fn put_terms(_symbols: &Symbols, terms: &[Term], _into: &mut Bytes) -> Result<(), AllocError>
-    ensures text { OnOk result (_into.new ≡ _into.old ++ joined (codes ",") (term_text _symbols.now) terms.now) }
-    ensures kept { KeepsFront _into.old _into.new }
-{
-    match terms {
-        [] => Ok(()),
-        [first, ..] => match *first {},
-    }
 }
 
 fn put_parents(parents: &[u64], into: &mut Bytes) -> Result<(), AllocError>

@@ -1,43 +1,32 @@
 -- The text of a finished run's refutation is accepted.
 use Rattle.std.proofs.Common.{◌≡◌, ℕ, true, List, ◌++◌, Some, codes, refl, ◌∙◌, arith}
-use Rattle.std.specs.List.{AllByRecursion}
 use Rattle.cd_read.specs.declared.problem.Problem.{Problem}
-use Rattle.cd_read.specs.Problems.{IsFormed, AreUnits, ClauseFormed}
+use Rattle.cd_read.specs.Problems.{IsFormed, ArePropositional}
+use Rattle.cd_text.specs.declared.line.Line.{Line}
 use Rattle.cd_text.specs.Texts.{shown}
 use Rattle.cd_text.specs.Feeds.{feedless}
 use Rattle.cd_text.proofs.Feedless.{feedless-append, shown_feedless}
-use Rattle.cd_check.specs.Accepted.{AcceptedText, IsLineFormed}
+use Rattle.cd_check.specs.Accepted.{AcceptedText}
 use Rattle.cd_check.specs.Lines.{IsComment}
 use Rattle.cd_check.proofs.Cuts.{derivation_taken}
 use Rattle.cd_ledger.specs.declared.Limits.{Limits}
 use Rattle.cd_ledger.specs.declared.Local.{Local}
 use Rattle.cd_ledger.specs.declared.Verdict.TheVariants.{Refuted}
-use Rattle.cd_ledger.proofs.Lists.{all_weaker}
 use Rattle.cd_peer.specs.Finished.{alone, IsFinished}
 use Rattle.cd_laws.specs.Right.{IsRight}
-use Rattle.cd_laws.specs.Formed.{HasFormed}
 use Rattle.cd_laws.proofs.RightLemmas.{runs_are_right}
-use Rattle.cd_laws.proofs.FormedLemmas.{runs_have_formed}
-use Rattle.cd_build.specs.Derivation.{derivation_of}
+use Rattle.cd_build.specs.Derivation.{IsDerivation}
 use Rattle.cd_build.specs.Refuting.{IsPrintable, DerivationsRefute}
 use Rattle.cd_top.specs.Texts.{unsatisfiable_line, start_line, end_line, refuted_text}
 
 -- the state at the end of a run is right
-pub finished_right : (p : Problem) (limits : Limits) (s : Local) → AreUnits p.inputs → IsFinished p limits s → IsRight p s
-finished_right p limits s units f = (runs_are_right p limits s.journal (alone s) units f.reached.run).0
+pub finished_right : (p : Problem) (limits : Limits) (s : Local) → ArePropositional p.inputs → IsFinished p limits s → IsRight p s
+finished_right p limits s all f = (runs_are_right p limits s.journal (alone s) all f.reached.run).0
 
-pub finished_formed : (p : Problem) (limits : Limits) (s : Local) → IsFormed p → IsFinished p limits s → HasFormed p s
-finished_formed p limits s formed f = (runs_have_formed p limits s.journal (alone s) formed f.reached.run).0
-
--- and its derivation is a refutation
-pub finished_refutes : DerivationsRefute → (p : Problem) (limits : Limits) (s : Local) → IsFormed p → AreUnits p.inputs → IsFinished p limits s → s.verdict ≡ Some Refuted → IsPrintable p s
-finished_refutes law p limits s formed units f refuted =
-    let right = finished_right p limits s units f in
-    law p s (record { inputs = formed; right = right; verdict = refuted; few = omega (arith, f.ready.room) })
-
--- its lines are over the problem's symbols
-pub lines_formed : (p : Problem) (s : Local) → IsPrintable p s → AllByRecursion (λ l. ClauseFormed p.symbols l.clause) (derivation_of p s)
-lines_formed p s printable = all_weaker (IsLineFormed p.symbols) (λ l. ClauseFormed p.symbols l.clause) (derivation_of p s) (λ l formed. formed.clause) printable.refutes.formed
+-- and the lines of its derivation are a refutation
+pub finished_refutes : DerivationsRefute → (p : Problem) (limits : Limits) (s : Local) (lines : List Line) → IsFormed p → ArePropositional p.inputs → IsFinished p limits s → s.verdict ≡ Some Refuted → IsDerivation p s lines → IsPrintable p lines
+finished_refutes law p limits s lines formed all f refuted derivation =
+    law p s lines (record { inputs = formed; right = finished_right p limits s all f; verdict = refuted; few = omega (arith, f.ready.room) }) derivation
 
 named_feedless : (words name : List ℕ) → feedless words ≡ true → feedless (words ++ shown name) ≡ true
 named_feedless words name none = feedless-append words (shown name) ∙ rw (none, shown_feedless name) refl
@@ -52,10 +41,10 @@ second_comment name = record { begins = refl; one_line = named_feedless (codes "
 last_comment : (name : List ℕ) → IsComment (end_line name)
 last_comment name = record { begins = refl; one_line = named_feedless (codes "% SZS output end CNFRefutation for ") name refl }
 
-pub text_accepted : (p : Problem) (s : Local) → IsPrintable p s → AcceptedText p (refuted_text p (derivation_of p s))
+pub text_accepted : (p : Problem) (lines : List Line) → IsPrintable p lines → AcceptedText p (refuted_text p lines)
 unfolding refuted_text
-text_accepted p s printable = record {
-  lines = derivation_of p s;
-  form = derivation_taken p.symbols (unsatisfiable_line p.name) (start_line p.name) (end_line p.name) (derivation_of p s) (first_comment p.name) (second_comment p.name) (last_comment p.name) printable.fit;
+text_accepted p lines printable = record {
+  lines = lines;
+  form = derivation_taken p.symbols (unsatisfiable_line p.name) (start_line p.name) (end_line p.name) lines (first_comment p.name) (second_comment p.name) (last_comment p.name) printable.fit;
   refutes = printable.refutes;
 }

@@ -2,6 +2,7 @@
 use Rattle.std.proofs.Common.{◌≡◌, ℕ, Bool, cond, List, [], ◌∷◌, length, replicate, Option, Some, None, IsSome, refl, sym, ap, ◌∙◌, subst, append-nil}
 use Rattle.cd_clause.specs.Truth.{Models}
 use Rattle.cd_read.specs.declared.problem.Problem.{Problem}
+use Rattle.cd_text.specs.declared.line.Line.{Line}
 use Rattle.cd_check.specs.Accepted.{AcceptedText, input_clauses}
 use Rattle.cd_check.proofs.Refuting.{accepted_texts_refute}
 use Rattle.cd_ledger.specs.declared.Event.{Event}
@@ -10,18 +11,18 @@ use Rattle.cd_ledger.specs.declared.Local.{Local}
 use Rattle.cd_ledger.specs.declared.Verdict.{Verdict}
 use Rattle.cd_ledger.specs.declared.Verdict.TheVariants as verdict
 use Rattle.cd_ledger.specs.Machine.{IsQuiet}
-use Rattle.cd_ledger.specs.World.{World, Run, start_world, recorded}
+use Rattle.cd_ledger.specs.World.{World, Runs, recorded}
 use Rattle.cd_peer.specs.Finished.{alone, VerdictSays, IsFinished}
 use Rattle.cd_laws.specs.Right.{records_of}
 use Rattle.cd_laws.specs.Models.{recorded_clauses, HaveSameModels}
 use Rattle.cd_laws.proofs.AccountLemmas.{runs_are_accounted}
 use Rattle.cd_laws.proofs.ModelsLemmas.{runs_keep_models, closed_runs_keep_models}
-use Rattle.cd_build.specs.Derivation.{derivation_of}
+use Rattle.cd_build.specs.Derivation.{IsDerivation}
 use Rattle.cd_top.specs.declared.answer.Account.{Account}
 use Rattle.cd_top.specs.declared.answer.Answer.{Answer}
 use Rattle.cd_top.specs.declared.answer.Answer.TheVariants.{Refuted, Saturated, Spent, Usage, Refused, LibraryFault, SinkFault, Memory}
 use Rattle.cd_top.specs.Texts.{refuted_text, saturated_text, spent_text}
-use Rattle.cd_top.specs.Ends.{verdict_answer, verdict_text}
+use Rattle.cd_top.specs.Ends.{verdict_answer, IsVerdictText}
 use Rattle.cd_top.specs.Headline.{IsRecorded, EndsIn, RunEnds, AtEachMoment, HasModelsOf, AccountsForAll, Refutes, HasNoModel, is_spent}
 
 recorded_one : (es : List Event) → recorded (es ∷ []) (replicate (length es) 0) ≡ es
@@ -34,31 +35,33 @@ pub record IsAccountOf (a : Account) (p : Problem) (limits : Limits) (s : Local)
   pub limits_are : a.limits ≡ limits
   pub journals : a.journals ≡ s.journal ∷ []
   pub order : a.order ≡ replicate (length s.journal) 0
-  pub text : a.text ≡ verdict_text p s s.verdict
+  pub text : IsVerdictText p s s.verdict a.text
 
 account_recorded : (a : Account) (p : Problem) (limits : Limits) (s : Local) → IsFinished p limits s → IsAccountOf a p limits s → IsRecorded a p (alone s)
 account_recorded a p limits s f account =
     let events : recorded a.journals a.order ≡ s.journal =
     ap (λ (j : List (List Event)). recorded j a.order) account.journals ∙ ap (λ (o : List ℕ). recorded (s.journal ∷ []) o) account.order ∙ recorded_one s.journal in
-    let run : Run (start_world p a.limits) s.journal (alone s) = subst (λ (l : Limits). Run (start_world p l) s.journal (alone s)) (sym account.limits_are) f.reached.run in
-    record { run = subst (λ (es : List Event). Run (start_world p a.limits) es (alone s)) (sym events) run; journals = sym account.journals }
+    let run : Runs p a.limits s.journal (alone s) = subst (λ (l : Limits). Runs p l s.journal (alone s)) (sym account.limits_are) f.reached.run in
+    record { run = subst (λ (es : List Event). Runs p a.limits es (alone s)) (sym events) run; journals = sym account.journals }
 
 -- what was recorded at the end of a closed run has the models of the problem
 recorded_models : (p : Problem) (limits : Limits) (s : Local) → IsFinished p limits s → IsQuiet s → HaveSameModels (recorded_clauses s) (input_clauses p.inputs)
-recorded_models p limits s f quiet interp =
-    let same = closed_runs_keep_models p limits s.journal (alone s) f.reached.run (record { travelling = refl; quiet = (quiet, tt) }) interp in
+recorded_models p limits s f quiet interp is =
+    let same = closed_runs_keep_models p limits s.journal (alone s) f.reached.run (record { travelling = refl; quiet = (quiet, tt) }) interp is in
     let one = append-nil (recorded_clauses s) in
     (λ models. same.0 (subst (Models interp) (sym one) models), λ models. subst (Models interp) one (same.1 models))
 
 -- the answer has its cause, by the verdict
-ends_by : (v : Option Verdict) (a : Account) (p : Problem) (limits : Limits) (s : Local) → s.verdict ≡ v → IsSome v → VerdictSays v s → IsFinished p limits s → IsAccountOf a p limits s → a.text ≡ verdict_text p s v
-    → (s.verdict ≡ Some verdict.Refuted → AcceptedText p (refuted_text p (derivation_of p s))) → EndsIn a p (alone s) (verdict_answer v)
+ends_by : (v : Option Verdict) (a : Account) (p : Problem) (limits : Limits) (s : Local) → s.verdict ≡ v → IsSome v → VerdictSays v s → IsFinished p limits s → IsAccountOf a p limits s → IsVerdictText p s v a.text
+    → (s.verdict ≡ Some verdict.Refuted → (lines : List Line) → IsDerivation p s lines → AcceptedText p (refuted_text p lines)) → EndsIn a p (alone s) (verdict_answer v)
 ends_by None a p limits s is ended says f account text accepted = absurd (cc ended)
 ends_by (Some verdict.Refuted) a p limits s is ended says f account text accepted = record {
   state = s;
   least = ap (λ (b : Bool). cond b (Some (0, s)) None) says;
-  text = text;
-  accepted = subst (AcceptedText p) (sym text) (accepted is);
+  lines = text.0;
+  derivation = text.1;
+  text = text.2;
+  accepted = subst (AcceptedText p) (sym text.2) (accepted is text.0 text.1);
 }
 ends_by (Some verdict.Saturated) a p limits s is ended says f account text accepted = record {
   none = ap (λ (b : Bool). cond b (Some (0, s)) None) says.0;
@@ -80,12 +83,12 @@ ends_by (Some verdict.Spent) a p limits s is ended says f account text accepted 
     }
 
 pub run_ends : (a : Account) (p : Problem) (limits : Limits) (s : Local) → IsFinished p limits s → IsAccountOf a p limits s
-    → (s.verdict ≡ Some verdict.Refuted → AcceptedText p (refuted_text p (derivation_of p s))) → RunEnds a (verdict_answer s.verdict) (Some p)
+    → (s.verdict ≡ Some verdict.Refuted → (lines : List Line) → IsDerivation p s lines → AcceptedText p (refuted_text p lines)) → RunEnds a (verdict_answer s.verdict) (Some p)
 run_ends a p limits s f account accepted =
     (alone s, account_recorded a p limits s f account, ends_by s.verdict a p limits s refl f.ended f.reached.says f account account.text accepted)
 
 -- what holds in every run from the problem holds at each moment of the recorded one
-at_each_moment : (Says : Problem → World → Type 0) (a : Account) (o : Option Problem) → ((p : Problem) (es : List Event) (w : World) → Run (start_world p a.limits) es w → Says p w) → AtEachMoment Says a o
+at_each_moment : (Says : Problem → World → Type 0) (a : Account) (o : Option Problem) → ((p : Problem) (es : List Event) (w : World) → Runs p a.limits es w → Says p w) → AtEachMoment Says a o
 at_each_moment Says a None law = tt
 at_each_moment Says a (Some p) law = λ front rest w events run. law p front w run
 

@@ -8,17 +8,18 @@ use Rattle.cd_outside.specs.Outside.{AppendsFront, Gives}
 use Rattle.cd_read.specs.declared.problem.Problem.{Problem}
 use Rattle.cd_read.specs.Problems.{Reads}
 use Rattle.cd_read.specs.Fetched.{Told}
+use Rattle.cd_text.specs.declared.line.Line.{Line}
 use Rattle.cd_check.specs.Accepted.{AcceptedText, input_clauses}
 use Rattle.cd_ledger.specs.declared.Act.TheVariants.{End}
 use Rattle.cd_ledger.specs.declared.Local.{Local}
 use Rattle.cd_ledger.specs.declared.Verdict.{Verdict}
 use Rattle.cd_ledger.specs.declared.Verdict.TheVariants as verdict
-use Rattle.cd_ledger.specs.World.{World, Run, IsClosed, start_world, recorded, journal_of, has_empty, work_count, EndsWith}
+use Rattle.cd_ledger.specs.World.{World, Runs, IsClosed, recorded, journal_of, has_empty, work_count, EndsWith}
 use Rattle.cd_ledger.specs.declared.Event.{Event}
 use Rattle.cd_laws.specs.Right.{records_of}
 use Rattle.cd_laws.specs.Accounts.{AreAccounted}
 use Rattle.cd_laws.specs.Models.{carried, recorded_clauses, HaveSameModels}
-use Rattle.cd_build.specs.Derivation.{derivation_of}
+use Rattle.cd_build.specs.Derivation.{IsDerivation}
 use Rattle.cd_top.specs.declared.answer.Answer.{Answer}
 use Rattle.cd_top.specs.declared.answer.Answer.TheVariants.{Refuted, Saturated, Spent, Usage, Refused, LibraryFault, SinkFault, Memory}
 use Rattle.cd_top.specs.declared.answer.Account.{Account}
@@ -80,13 +81,13 @@ pub record HasDefaults (account : Account) : Type 0 where
 
 -- the account's journals, taken in the account's order, lead from the problem's start to this world, and are used up
 pub record IsRecorded (account : Account) (p : Problem) (w : World) : Type 0 where
-  pub run : Run (start_world p account.limits) (recorded account.journals account.order) w
+  pub run : Runs p account.limits (recorded account.journals account.order) w
   pub journals : map journal_of w.locals ≡ account.journals
 
 -- what holds of the problem and the world after each front of the recorded run
 abbrev pub AtEachMoment : (Problem → World → Type 0) → Account → Option Problem → Type 0
 AtEachMoment Says account None = ⊤
-AtEachMoment Says account (Some p) = (front rest : List Event) (w : World) → recorded account.journals account.order ≡ front ++ rest → Run (start_world p account.limits) front w → Says p w
+AtEachMoment Says account (Some p) = (front rest : List Event) (w : World) → recorded account.journals account.order ≡ front ++ rest → Runs p account.limits front w → Says p w
 
 -- the carried clauses have exactly the models of the problem's clauses
 abbrev pub HasModelsOf : Problem → World → Type 0
@@ -94,7 +95,7 @@ HasModelsOf p w = HaveSameModels (carried w) (input_clauses p.inputs)
 
 -- every inference between live clauses is owed once, or was done once and each of its conclusions is kept
 abbrev pub AccountsForAll : Problem → World → Type 0
-AccountsForAll p w = AllByRecursion AreAccounted w.locals
+AccountsForAll p w = AllByRecursion (AreAccounted p) w.locals
 
 -- the least peer that recorded the empty clause, peers being counted from k, and its state
 abbrev pub least_refuted : ℕ → List Local → Option (ℕ × Local)
@@ -116,7 +117,9 @@ least_spent k (s ∷ ss) = if is_spent s.verdict then Some (k, s) else least_spe
 pub record EndsRefuted (account : Account) (p : Problem) (w : World) (peer : ℕ) : Type 0 where
   pub state : Local
   pub least : least_refuted 0 w.locals ≡ Some (peer, state)
-  pub text : account.text ≡ refuted_text p (derivation_of p state)
+  pub lines : List Line
+  pub derivation : IsDerivation p state lines
+  pub text : account.text ≡ refuted_text p lines
   pub accepted : AcceptedText p account.text
 
 -- no empty clause was recorded, and nothing travels, is pending or is owed: the held clauses are printed, and have exactly the

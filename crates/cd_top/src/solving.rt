@@ -1,8 +1,8 @@
 //! Runs the peer on a problem, and says what came of it.
 ghost use Rattle.std.specs.Prelude.{◌≡◌, ◌≤◌, [], Some, length, replicate, IfOk};
-ghost use Rattle.cd_read.specs.Problems.{IsFormed, AreUnits};
+ghost use Rattle.cd_read.specs.Problems.{IsFormed, ArePropositional};
 ghost use Rattle.cd_peer.specs.Finished.{IsFinished};
-ghost use Rattle.cd_top.specs.Ends.{verdict_answer, verdict_text, IsRunAnswer};
+ghost use Rattle.cd_top.specs.Ends.{verdict_answer, IsVerdictText, IsRunAnswer};
 ghost use Rattle.cd_top.specs.Headline.{HasDefaults, RunEnds, Refutes};
 
 use crate::answer::{Account, Answer, Turns};
@@ -21,8 +21,8 @@ pub const STEPS: u64 = 50_000;
 /// The answer to a problem, and the account of its run.
 pub fn solve(alloc: Global, problem: Problem) -> Result<(Answer, Account), AllocError>
     requires formed { IsFormed problem }
-    requires few { length problem.inputs ≤ 200 }
-    requires units { AreUnits problem.inputs }
+    requires few { length problem.inputs ≤ 4096 }
+    requires propositional { ArePropositional problem.inputs }
     ensures problem { IfOk result (λ r. r.1.problem ≡ Some problem) }
     ensures defaults { IfOk result (λ r. HasDefaults r.1) }
     ensures run { IfOk result (λ r. RunEnds r.1 r.0 (Some problem)) }
@@ -66,11 +66,10 @@ fn text_of(
     local: &Local,
 ) -> Result<Bytes, AllocError>
     requires formed { IsFormed problem.now }
-    requires units { AreUnits problem.now.inputs }
+    requires propositional { ArePropositional problem.now.inputs }
     requires finished { IsFinished problem.now limits local.now }
-    ensures { IfOk result (λ text. text ≡ verdict_text problem.now local.now local.now.verdict) }
+    ensures { IfOk result (IsVerdictText problem.now local.now local.now.verdict) }
 {
-    derivations_refute();
     let _ = limits;
     match local.verdict {
         Some(Verdict::Refuted) => {

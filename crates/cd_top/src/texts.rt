@@ -1,7 +1,6 @@
 //! The text of each answer.
 ghost use Rattle.std.specs.Prelude.{◌≡◌, ◌++◌, [], ◌∷◌, map, IfOk, OnOk};
-ghost use Rattle.std.specs.List.{AllByRecursion, flat_map};
-ghost use Rattle.cd_read.specs.Problems.{ClauseFormed};
+ghost use Rattle.std.specs.List.{flat_map};
 ghost use Rattle.cd_text.specs.Texts.{shown};
 ghost use Rattle.cd_laws.specs.Right.{record_of};
 ghost use Rattle.cd_top.specs.Texts.{with_feed, lines_text, refuted_text, held_line, counts_line, saturated_text, spent_line, spent_text, what_text, refused_text, unread_text};
@@ -53,7 +52,6 @@ fn put_what(into: &mut Bytes, what: What) -> Result<(), AllocError>
 /// The lines of a derivation between the lines that say what they are.
 #[tactic(auto, using(std::proofs::Common::append_assoc), unfolding(crate::specs::Texts::refuted_text))]
 pub fn refuted_text(alloc: Global, problem: &Problem, lines: &[Line]) -> Result<Bytes, AllocError>
-    requires { AllByRecursion (λ l. ClauseFormed problem.now.symbols l.clause) lines.now }
     ensures { IfOk result (λ text. text ≡ refuted_text problem.now lines.now) }
 {
     let mut text = Sequence::new(alloc);
@@ -76,7 +74,6 @@ fn put_named(into: &mut Bytes, words: &[u8], problem: &Problem) -> Result<(), Al
 
 #[tactic(auto, using(std::proofs::Common::append_assoc))]
 fn put_lines(into: &mut Bytes, symbols: &Symbols, lines: &[Line]) -> Result<(), AllocError>
-    requires { AllByRecursion (λ l. ClauseFormed symbols.now l.clause) lines.now }
     ensures { OnOk result (into.new ≡ into.old ++ lines_text symbols.now lines.now) }
 {
     let mut rest = lines;
@@ -95,7 +92,6 @@ pub fn saturated_text(
     problem: &Problem,
     known: &[Known],
 ) -> Result<Bytes, AllocError>
-    requires { AllByRecursion (λ k. ClauseFormed problem.now.symbols k.entry.clause) known.now }
     ensures { IfOk result (λ text. text ≡ saturated_text problem.now 1 (map record_of known.now)) }
 {
     let mut text = Sequence::new(alloc);
@@ -120,7 +116,6 @@ fn put_counts(into: &mut Bytes, peers: u64, clauses: u64) -> Result<(), AllocErr
 
 #[tactic(auto, using(std::proofs::Common::append_assoc))]
 fn put_held(into: &mut Bytes, symbols: &Symbols, known: &[Known]) -> Result<(), AllocError>
-    requires { AllByRecursion (λ k. ClauseFormed symbols.now k.entry.clause) known.now }
     ensures { OnOk result (into.new ≡ into.old ++ flat_map (λ r. with_feed (held_line symbols.now r)) (map record_of known.now)) }
 {
     let mut rest = known;
@@ -133,7 +128,6 @@ fn put_held(into: &mut Bytes, symbols: &Symbols, known: &[Known]) -> Result<(), 
 
 #[tactic(auto, using(std::proofs::Common::append_assoc), unfolding(crate::specs::Texts::held_line))]
 fn put_record(into: &mut Bytes, symbols: &Symbols, record_: &Record) -> Result<(), AllocError>
-    requires { ClauseFormed symbols.now record_.now.clause }
     ensures { OnOk result (into.new ≡ into.old ++ with_feed (held_line symbols.now record_.now)) }
 {
     into.extend(b"cnf(n")?;

@@ -1,12 +1,9 @@
-use Rattle.std.proofs.Common.{◌≡◌, ◌+◌, ◌++◌, length}
-use Rattle.cd_ledger.specs.Machine.{items_from}
+use Rattle.std.proofs.Common.{◌≡◌, take}
+use Rattle.cd_ledger.specs.Machine.{AreInputItems}
 use Rattle.cd_peer.proofs.changes.start_items.Given as goal
 
-abbrev pub invariant-loop-rest : goal.invariant-loop-rest
-invariant-loop-rest l = record {
-  items : l.pending ++ items_from l.index l.rest ≡ items_from 0 l.inputs;
-  size : l.index + length l.rest ≡ length l.inputs;
+abbrev pub invariant-loop-input : goal.invariant-loop-input
+invariant-loop-input l = record {
+  items : AreInputItems 0 (take l.input-index l.inputs) l.pending;
+  counted : l.index ≡ l.input-index;
 }
-
-abbrev pub decreases-loop-rest : goal.decreases-loop-rest
-decreases-loop-rest l = length l.rest

@@ -1,11 +1,9 @@
-use Rattle.std.proofs.Common.{sym, subst}
-use Rattle.cd_peer.specs.Ready.{IsReady}
 use Rattle.cd_peer.proofs.ReadyLemmas.{ready_start, ready_step}
 use Rattle.cd_peer.proofs.RunLemmas.{reached_start, reached_turn, none_is, some_is, turns_less}
 use Rattle.cd_peer.proofs.running.run.Goals as goal
 
 pub settle-requires : goal.settle-requires
-settle-requires c = subst IsReady (sym c.in_ok-local.ensures) (ready_start c.args.problem.now c.args.limits c.requires.short c.requires.room)
+settle-requires c = ready_start c.args.problem.now c.args.limits c.in_ok-local.local c.requires.propositional c.requires.room c.in_ok-local.ensures
 
 pub turns-init : goal.turns-init
 turns-init c = record {

@@ -1,4 +1,6 @@
 use Rattle.std.proofs.Common.{◌≡◌, ◌∷◌, [], Some, length, replicate, List, sym, ap, ◌∙◌, refl, subst, rules}
+use Rattle.cd_text.specs.declared.line.Line.{Line}
+use Rattle.cd_build.specs.Derivation.{IsDerivation}
 use Rattle.cd_ledger.specs.declared.Event.{Event}
 use Rattle.cd_ledger.specs.declared.Verdict.TheVariants.{Refuted}
 use Rattle.cd_top.specs.declared.answer.Account.{Account}
@@ -17,7 +19,8 @@ returns-clause-run c =
     let events : c.as_slice.result.now ≡ s.journal = c.as_slice.ensures ∙ c.journal_of-journal.ensures in
     let order = c.in_ok-order.ensures ∙ ap (λ (es : List Event). replicate (length es) 0) events in
     let account : IsAccountOf a p (record { steps = 50000 }) s = record { peers = refl; limits_are = refl; journals = journals; order = order; text = c.in_ok-text.ensures } in
-    let accepted = λ (refuted : s.verdict ≡ Some Refuted). text_accepted p s (finished_refutes c.derivations_refute.ensures p (record { steps = 50000 }) s c.requires.formed c.requires.units c.in_ok-local.ensures refuted) in
+    let accepted = λ (refuted : s.verdict ≡ Some Refuted) (lines : List Line) (derivation : IsDerivation p s lines).
+    text_accepted p lines (finished_refutes c.derivations_refute.ensures p (record { steps = 50000 }) s lines c.requires.formed c.requires.propositional c.in_ok-local.ensures refuted derivation) in
     subst (λ (m : Answer). RunEnds a m (Some p)) (sym c.answer_of-answer.ensures) (run_ends a p (record { steps = 50000 }) s c.in_ok-local.ensures account accepted)
 
 pub returns-clause-refutes : goal.returns-clause-refutes

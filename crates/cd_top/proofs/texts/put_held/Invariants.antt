@@ -1,15 +1,11 @@
 use Rattle.std.proofs.Common.{◌≡◌, ◌++◌, length, map}
-use Rattle.std.specs.List.{AllByRecursion, flat_map}
-use Rattle.cd_read.specs.Problems.{ClauseFormed}
+use Rattle.std.specs.List.{flat_map}
 use Rattle.cd_laws.specs.Right.{record_of}
 use Rattle.cd_top.specs.Texts.{with_feed, held_line}
 use Rattle.cd_top.proofs.texts.put_held.Given as goal
 
 abbrev pub invariant-loop-rest : goal.invariant-loop-rest
-invariant-loop-rest l = record {
-  text : l.into ++ flat_map (λ r. with_feed (held_line l.symbols r)) (map record_of l.rest) ≡ l.initial.into ++ flat_map (λ r. with_feed (held_line l.symbols r)) (map record_of l.known);
-  formed : AllByRecursion (λ k. ClauseFormed l.symbols k.entry.clause) l.rest;
-}
+invariant-loop-rest l = l.into ++ flat_map (λ r. with_feed (held_line l.symbols r)) (map record_of l.rest) ≡ l.initial.into ++ flat_map (λ r. with_feed (held_line l.symbols r)) (map record_of l.known)
 
 abbrev pub decreases-loop-rest : goal.decreases-loop-rest
 decreases-loop-rest l = length l.rest

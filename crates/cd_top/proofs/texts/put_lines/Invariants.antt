@@ -1,14 +1,9 @@
 use Rattle.std.proofs.Common.{◌≡◌, ◌++◌, length}
-use Rattle.std.specs.List.{AllByRecursion}
-use Rattle.cd_read.specs.Problems.{ClauseFormed}
 use Rattle.cd_top.specs.Texts.{lines_text}
 use Rattle.cd_top.proofs.texts.put_lines.Given as goal
 
 abbrev pub invariant-loop-rest : goal.invariant-loop-rest
-invariant-loop-rest l = record {
-  text : l.into ++ lines_text l.symbols l.rest ≡ l.initial.into ++ lines_text l.symbols l.lines;
-  formed : AllByRecursion (λ x. ClauseFormed l.symbols x.clause) l.rest;
-}
+invariant-loop-rest l = l.into ++ lines_text l.symbols l.rest ≡ l.initial.into ++ lines_text l.symbols l.lines
 
 abbrev pub decreases-loop-rest : goal.decreases-loop-rest
 decreases-loop-rest l = length l.rest

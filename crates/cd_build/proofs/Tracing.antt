@@ -1,0 +1,184 @@
+-- The clauses that the steps of a right record give, one after another.
+use Rattle.std.proofs.Common.{◌≡◌, ℕ, zero, suc, ◌+◌, Bool, true, false, cond, List, [], ◌∷◌, ◌++◌, length, map, Option, Some, None, slice_get, get_or, refl, sym, ap, ◌∙◌, subst, arith, append_assoc, append-nil}
+use Rattle.std.specs.List.{AllByRecursion, find, flat_map}
+use Rattle.std.proofs.lemmas.List.{length-append}
+use Rattle.cd_clause.specs.declared.Clause.{Clause}
+use Rattle.cd_names.specs.declared.names.Name.{Name}
+use Rattle.cd_steps.specs.declared.Step.{Step}
+use Rattle.cd_steps.specs.declared.Step.TheVariants.{Input, Resolve, Tidy}
+use Rattle.cd_steps.specs.Steps.{StepOk}
+use Rattle.cd_steps.proofs.Unique.{steps_give_one}
+use Rattle.cd_read.specs.declared.problem.Problem.{Problem}
+use Rattle.cd_read.specs.declared.problem.Input.{Input as ProblemInput}
+use Rattle.cd_text.specs.declared.line.Line.{Line}
+use Rattle.cd_text.specs.declared.line.LineSource.{LineSource}
+use Rattle.cd_text.specs.declared.line.LineSource.TheVariants.{Inference}
+use Rattle.cd_ledger.specs.declared.Known.{Known}
+use Rattle.cd_ledger.specs.declared.Record.{Record}
+use Rattle.cd_ledger.specs.Names.{name_eq, names_in, look}
+use Rattle.cd_ledger.proofs.Lists.{get_left}
+use Rattle.cd_laws.specs.Accounts.{IsReplayed}
+use Rattle.cd_laws.specs.Right.{record_of, IsNamed, IsStepRight, AreStepsRight, AreRecordsRight}
+use Rattle.cd_build.specs.Derivation.{AreGiven, number_of, role_of, source_of, lines_of_steps}
+use Rattle.cd_build.specs.Marks.{clause_of, input_clause, first_premise, second_premise, Gives, EachGives, source_by, line_by, AreAdded}
+use Rattle.cd_build.proofs.Choosing.{find_named}
+
+-- the steps are right one after another, behind the clause before them, give these clauses, and lead to the last one
+abbrev pub AreSteps : Problem → ℕ → List Record → Option Clause → List Step → List Clause → Clause → Type 0
+AreSteps p me before current [] cs c = (cs ≡ []) × (current ≡ Some c)
+AreSteps p me before current (s ∷ ss) cs c =
+    (d : Clause) × (others : List Clause) × IsStepRight p me before current s d × AreSteps p me before (Some d) ss others c × (cs ≡ d ∷ others)
+
+-- known records, the earlier ones of which are right
+pub record StandBefore (p : Problem) (me : ℕ) (known : List Known) (before : List Record) : Type 0 where
+  pub rest : List Record
+  pub split : map record_of known ≡ before ++ rest
+  pub right : AreRecordsRight p me [] before
+
+-- ---- what is known under a name
+
+record IsLooked (known : List Known) (n : Name) (a : Record) : Type 0 where
+  found : Known
+  look_is : look known n ≡ Some found
+  entry : found.entry ≡ a
+
+find_more : {A : Type 0} (q : A → Bool) (xs ys : List A) (a : A) → find q xs ≡ Some a → find q (xs ++ ys) ≡ Some a
+find_more q [] ys a found = absurd cc
+find_more {A} q (x ∷ xs) ys a found = by (q x) found (find_more q xs ys a)
+  where
+    by : (b : Bool) → cond b (Some x) (find q xs) ≡ Some a → (find q xs ≡ Some a → find q (xs ++ ys) ≡ Some a) → cond b (Some x) (find q (xs ++ ys)) ≡ Some a
+    by true here later = here
+    by false here later = later here
+
+looked : (n : Name) (known : List Known) (a : Record) → find (λ r. name_eq r.name n) (map record_of known) ≡ Some a → IsLooked known n a
+looked n [] a found = absurd cc
+looked n (k ∷ ks) a found = by (name_eq k.entry.name n) refl found (looked n ks a)
+  where
+    by : (b : Bool) → name_eq k.entry.name n ≡ b → cond b (Some k.entry) (find (λ r. name_eq r.name n) (map record_of ks)) ≡ Some a
+        → (find (λ r. name_eq r.name n) (map record_of ks) ≡ Some a → IsLooked ks n a) → IsLooked (k ∷ ks) n a
+    by true is here later = record { found = k; look_is = ap (λ (t : Bool). cond t (Some k) (look ks n)) is; entry = cc here }
+    by false is here later =
+        let others = later here in
+        record { found = others.found; look_is = ap (λ (t : Bool). cond t (Some k) (look ks n)) is ∙ others.look_is; entry = others.entry }
+
+named_looked : (p : Problem) (me : ℕ) (known : List Known) (before : List Record) (n : Name) (a : Record) → StandBefore p me known before → IsNamed me before n a → IsLooked known n a
+named_looked p me known before n a stand named =
+    let zero_plus : n.seq ≡ 0 + n.seq = omega arith in
+    let found = find_named p me [] before n n.seq a stand.right named.peer zero_plus named.there in
+    looked n known a (ap (find (λ r. name_eq r.name n)) stand.split ∙ find_more (λ r. name_eq r.name n) before stand.rest a found.0)
+
+-- ---- a right step is right with what is known, and gives its clause from the places
+
+replayed : (p : Problem) (me : ℕ) (known : List Known) (before : List Record) (current : Option Clause) (s : Step) (c : Clause) → StandBefore p me known before → IsStepRight p me before current s c → IsReplayed p known current s c
+replayed p me known before current (Input index) c stand ok = ok
+replayed p me known before current (Resolve pos i neg j terms) c stand ok =
+    let x = named_looked p me known before pos ok.0 stand ok.2 in
+    let y = named_looked p me known before neg ok.1 stand ok.3 in (
+      x.found,
+      y.found,
+      x.look_is,
+      y.look_is,
+      subst (λ (r : Record). StepOk (Resolve pos i neg j terms) None (Some r.clause) (Some y.found.entry.clause) c) (sym x.entry)
+          (subst (λ (r : Record). StepOk (Resolve pos i neg j terms) None (Some ok.0.clause) (Some r.clause) c) (sym y.entry) ok.4),
+    )
+replayed p me known before current Tidy c stand ok = ok
+
+place_clause : (known : List Known) (k : ℕ) (a : Record) → slice_get (map record_of known) k ≡ Some a → clause_of (slice_get known k) ≡ Some a.clause
+place_clause [] k a there = absurd cc
+place_clause (x ∷ xs) zero a there = let e : x.entry ≡ a = cc in ap (λ (r : Record). Some r.clause) e
+place_clause (x ∷ xs) (suc k) a there = place_clause xs k a there
+
+named_clause : (p : Problem) (me : ℕ) (known : List Known) (before : List Record) (n : Name) (a : Record) → StandBefore p me known before → IsNamed me before n a → clause_of (slice_get known n.seq) ≡ Some a.clause
+named_clause p me known before n a stand named = place_clause known n.seq a (ap (λ (l : List Record). slice_get l n.seq) stand.split ∙ get_left before stand.rest n.seq a named.there)
+
+gives : (p : Problem) (me : ℕ) (known : List Known) (before : List Record) (current : Option Clause) (s : Step) (c : Clause) → StandBefore p me known before → IsStepRight p me before current s c → Gives p known current s c
+gives p me known before current (Input index) c stand ok = ap input_clause ok.1 ∙ ok.2
+gives p me known before current (Resolve pos i neg j terms) c stand ok =
+    subst (λ (o : Option Clause). StepOk (Resolve pos i neg j terms) current o (clause_of (slice_get known neg.seq)) c) (sym (named_clause p me known before pos ok.0 stand ok.2))
+    (subst (λ (o : Option Clause). StepOk (Resolve pos i neg j terms) current (Some ok.0.clause) o c) (sym (named_clause p me known before neg ok.1 stand ok.3)) ok.4)
+gives p me known before current Tidy c stand ok = ok
+
+pub each_gives : (p : Problem) (me : ℕ) (known : List Known) (before : List Record) (current : Option Clause) (ss : List Step) (c : Clause) → StandBefore p me known before → AreStepsRight p me before current ss c → EachGives p known current ss
+each_gives p me known before current [] c stand ok = tt
+each_gives p me known before current (s ∷ ss) c stand ok = (ok.0, gives p me known before current s ok.0 stand ok.1, each_gives p me known before (Some ok.0) ss c stand ok.2)
+
+-- ---- the clauses are those that the steps give
+
+replayed_one : (p : Problem) (known : List Known) (current : Option Clause) (s : Step) (c d : Clause) → IsReplayed p known current s c → IsReplayed p known current s d → c ≡ d
+replayed_one p known current (Input index) c d ok too =
+    let same : ok.0 ≡ too.0 = let a = ok.1 in let b = too.1 in cc in
+    let first : ok.0.clause ≡ c = let a = ok.2 in cc in
+    let second : too.0.clause ≡ d = let b = too.2 in cc in
+    sym first ∙ ap (λ (i : ProblemInput). i.clause) same ∙ second
+replayed_one p known current (Resolve pos i neg j terms) c d ok too =
+    let left : too.0 ≡ ok.0 = let a = ok.2 in let b = too.2 in cc in
+    let right : too.1 ≡ ok.1 = let a = ok.3 in let b = too.3 in cc in
+    let step = Resolve pos i neg j terms in
+    steps_give_one step None (Some ok.0.entry.clause) (Some ok.1.entry.clause) c d ok.4
+    (subst (λ (x : Known). StepOk step None (Some x.entry.clause) (Some ok.1.entry.clause) d) left (subst (λ (y : Known). StepOk step None (Some too.0.entry.clause) (Some y.entry.clause) d) right too.4))
+replayed_one p known current Tidy c d ok too = steps_give_one Tidy current None None c d ok too
+
+pub given_steps : (p : Problem) (me : ℕ) (known : List Known) (before : List Record) (current : Option Clause) (ss : List Step) (cs : List Clause) (c : Clause) → StandBefore p me known before
+    → AreStepsRight p me before current ss c → AreGiven p known current ss cs → AreSteps p me before current ss cs c
+given_steps p me known before current [] cs c stand ok given = (given, ok)
+given_steps p me known before current (s ∷ ss) cs c stand ok given =
+    let same : given.0 ≡ ok.0 = replayed_one p known current s given.0 ok.0 given.2 (replayed p me known before current s ok.0 stand ok.1) in
+    let more = subst (λ (d : Clause). AreGiven p known (Some d) ss given.1) same given.3 in (
+      ok.0,
+      given.1,
+      ok.1,
+      given_steps p me known before (Some ok.0) ss given.1 c stand ok.2 more,
+      given.4 ∙ ap (λ (d : Clause). d ∷ given.1) same,
+    )
+
+pub steps_given : (p : Problem) (me : ℕ) (known : List Known) (before : List Record) (current : Option Clause) (ss : List Step) (cs : List Clause) (c : Clause) → StandBefore p me known before
+    → AreSteps p me before current ss cs c → AreGiven p known current ss cs
+steps_given p me known before current [] cs c stand ok = ok.0
+steps_given p me known before current (s ∷ ss) cs c stand ok =
+    (ok.0, ok.1, replayed p me known before current s ok.0 stand ok.2, steps_given p me known before (Some ok.0) ss ok.1 c stand ok.3, ok.4)
+
+-- ---- the lines that are added
+
+-- the name has its number at its place
+abbrev pub IsNumbered : ℕ → List Record → List Record → List ℕ → Name → Type 0
+IsNumbered me before records numbers n = (a : Record) → IsNamed me before n a → get_or numbers n.seq 0 ≡ number_of 0 records n
+
+pub all_split : {A : Type 0} (P : A → Type 0) (xs ys : List A) → AllByRecursion P (xs ++ ys) → AllByRecursion P xs × AllByRecursion P ys
+all_split P [] ys all = (tt, all)
+all_split P (x ∷ xs) ys all = let others = all_split P xs ys all.1 in ((all.0, others.0), others.1)
+
+same_source : (p : Problem) (me : ℕ) (before records : List Record) (numbers : List ℕ) (k : ℕ) (current : Option Clause) (s : Step) (c : Clause) → IsStepRight p me before current s c
+    → AllByRecursion (IsNumbered me before records numbers) (names_in s) → source_by p numbers k s ≡ source_of p records k s
+same_source p me before records numbers k current (Input index) c ok all = refl
+same_source p me before records numbers k current (Resolve pos i neg j terms) c ok all =
+    ap (λ (m : ℕ). Inference (Resolve pos i neg j terms) (m ∷ get_or numbers neg.seq 0 ∷ [])) (all.0 ok.0 ok.2)
+    ∙ ap (λ (m : ℕ). Inference (Resolve pos i neg j terms) (number_of 0 records pos ∷ m ∷ [])) (all.1.0 ok.1 ok.3)
+same_source p me before records numbers k current Tidy c ok all = refl
+
+pub record AddSteps (p : Problem) (me : ℕ) (before records : List Record) (current : Option Clause) (ss : List Step) (c : Clause) (lines new : List Line) : Type 0 where
+  pub clauses : List Clause
+  pub steps : AreSteps p me before current ss clauses c
+  pub lines_are : new ≡ lines ++ lines_of_steps p records (length lines) ss clauses
+
+pub added_steps : (p : Problem) (me : ℕ) (known : List Known) (before records : List Record) (numbers : List ℕ) (current : Option Clause) (ss : List Step) (c : Clause) (lines new : List Line) → StandBefore p me known before
+    → AreStepsRight p me before current ss c → AllByRecursion (IsNumbered me before records numbers) (flat_map names_in ss) → AreAdded p known numbers current ss lines new → AddSteps p me before records current ss c lines new
+added_steps p me known before records numbers current [] c lines new stand ok all added = record { clauses = []; steps = (refl, ok); lines_are = added ∙ sym (append-nil lines) }
+added_steps p me known before records numbers current (s ∷ ss) c lines new stand ok all added =
+    let k = length lines in
+    let d = ok.0 in
+    let same : added.0 ≡ d = steps_give_one s current (first_premise p known s) (second_premise known s) added.0 d added.1 (gives p me known before current s d stand ok.1) in
+    let halves = all_split (IsNumbered me before records numbers) (names_in s) (flat_map names_in ss) all in
+    let line : Line = record { number = k + 1; role = role_of p s; clause = d; source = source_of p records k s } in
+    let is_line : line_by p numbers k added.0 s ≡ line =
+    ap (λ (e : Clause). line_by p numbers k e s) same
+    ∙ ap (λ (source : LineSource). record { number = k + 1; role = role_of p s; clause = d; source = source }) (same_source p me before records numbers k current s d ok.1 halves.0) in
+    let more : AreAdded p known numbers (Some d) ss (lines ++ line ∷ []) new =
+    subst (λ (l : Line). AreAdded p known numbers (Some d) ss (lines ++ l ∷ []) new) is_line
+    (subst (λ (e : Clause). AreAdded p known numbers (Some e) ss (lines ++ line_by p numbers k added.0 s ∷ []) new) same added.2) in
+    let others = added_steps p me known before records numbers (Some d) ss c (lines ++ line ∷ []) new stand ok.2 halves.1 more in
+    record {
+      clauses = d ∷ others.clauses;
+      steps = (d, others.clauses, ok.1, others.steps, refl);
+      lines_are = others.lines_are ∙ ap (λ (n : ℕ). (lines ++ line ∷ []) ++ lines_of_steps p records n ss others.clauses) (length-append lines (line ∷ []))
+          ∙ append_assoc lines (line ∷ []) (lines_of_steps p records (k + 1) ss others.clauses);
+    }

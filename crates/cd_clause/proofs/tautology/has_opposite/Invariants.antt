@@ -1,0 +1,6 @@
+use Rattle.std.proofs.Common.{drop}
+use Rattle.cd_clause.specs.Clauses.{Among, AreOpposite}
+use Rattle.cd_clause.proofs.tautology.has_opposite.Given as goal
+
+abbrev pub invariant-loop-other : goal.invariant-loop-other
+invariant-loop-other l = Among (AreOpposite l.l) l.others → Among (AreOpposite l.l) (drop l.other-index l.others)

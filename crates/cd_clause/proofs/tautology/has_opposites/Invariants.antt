@@ -1,0 +1,7 @@
+use Rattle.std.proofs.Common.{drop}
+use Rattle.cd_clause.specs.Clauses.{Among, AreOpposite}
+use Rattle.cd_clause.proofs.tautology.has_opposites.Given as goal
+
+abbrev pub invariant-loop-literal : goal.invariant-loop-literal
+invariant-loop-literal l = Among (λ m. Among (AreOpposite m) l.literals) l.literals →
+    Among (λ m. Among (AreOpposite m) l.literals) (drop l.literal-index l.literals)

@@ -1,0 +1,6 @@
+use Rattle.std.proofs.Common.{drop}
+use Rattle.cd_clause.specs.Clauses.{Among, IsSameLiteral}
+use Rattle.cd_clause.proofs.tidying.is_among.Given as goal
+
+abbrev pub invariant-loop-other : goal.invariant-loop-other
+invariant-loop-other l = Among (IsSameLiteral l.l) l.others → Among (IsSameLiteral l.l) (drop l.other-index l.others)

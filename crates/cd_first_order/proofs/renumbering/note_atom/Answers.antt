@@ -1,6 +1,0 @@
-use Rattle.cd_first_order.proofs.ClauseTerms.{equation_noted}
-use Rattle.cd_first_order.proofs.renumbering.note_atom.Goals as goal
-
-pub returns-in_ok-note_variables-in-Equal-2 : goal.returns-in_ok-note_variables-in-Equal-2
-returns-in_ok-note_variables-in-Equal-2 c =
-    equation_noted _ _ _ _ _ _ c.in-Equal.is c.in_ok-note_variables-in-Equal.ensures.ok c.in_ok-note_variables-in-Equal-2.ensures.ok

@@ -1,7 +1,0 @@
-use Rattle.std.proofs.Common.{◌≡◌, take}
-use Rattle.std.specs.List.{flat_map}
-use Rattle.cd_term.specs.Terms.{variables_of, firsts_after}
-use Rattle.cd_first_order.proofs.renumbering.note_terms.Given as goal
-
-abbrev pub invariant-loop-term : goal.invariant-loop-term
-invariant-loop-term l = l.seen ≡ firsts_after l.initial.seen (flat_map variables_of (take l.term-index l.terms))

@@ -1,6 +1,0 @@
-use Rattle.std.proofs.Common.{drop}
-use Rattle.cd_first_order.specs.Clauses.{Among, AreOpposite}
-use Rattle.cd_first_order.proofs.tautology.has_opposite.Given as goal
-
-abbrev pub invariant-loop-other : goal.invariant-loop-other
-invariant-loop-other l = Among (AreOpposite l.l) l.others → Among (AreOpposite l.l) (drop l.other-index l.others)

@@ -1,7 +1,0 @@
-use Rattle.std.proofs.Common.{drop}
-use Rattle.cd_first_order.specs.Clauses.{Among, AreOpposite}
-use Rattle.cd_first_order.proofs.tautology.has_opposites.Given as goal
-
-abbrev pub invariant-loop-literal : goal.invariant-loop-literal
-invariant-loop-literal l = Among (λ m. Among (AreOpposite m) l.literals) l.literals →
-    Among (λ m. Among (AreOpposite m) l.literals) (drop l.literal-index l.literals)

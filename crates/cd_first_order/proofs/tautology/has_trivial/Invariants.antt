@@ -1,6 +1,0 @@
-use Rattle.std.proofs.Common.{drop}
-use Rattle.cd_first_order.specs.Clauses.{Among, IsTrivial}
-use Rattle.cd_first_order.proofs.tautology.has_trivial.Given as goal
-
-abbrev pub invariant-loop-literal : goal.invariant-loop-literal
-invariant-loop-literal l = Among IsTrivial l.literals → Among IsTrivial (drop l.literal-index l.literals)

@@ -1,6 +1,0 @@
-use Rattle.std.proofs.Common.{drop}
-use Rattle.cd_first_order.specs.Clauses.{Among, IsSameLiteral}
-use Rattle.cd_first_order.proofs.tidying.is_among.Given as goal
-
-abbrev pub invariant-loop-other : goal.invariant-loop-other
-invariant-loop-other l = Among (IsSameLiteral l.l) l.others → Among (IsSameLiteral l.l) (drop l.other-index l.others)

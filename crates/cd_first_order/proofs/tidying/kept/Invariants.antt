@@ -1,5 +1,0 @@
-use Rattle.cd_first_order.proofs.KeptLemmas.{Completes}
-use Rattle.cd_first_order.proofs.tidying.kept.Given as goal
-
-abbrev pub invariant-loop-i : goal.invariant-loop-i
-invariant-loop-i l = Completes l.literals l.i l.values

@@ -1,0 +1,3 @@
+cnf(a,axiom,p | ~p).
+cnf(b,axiom,q).
+cnf(c,axiom,r | q).
