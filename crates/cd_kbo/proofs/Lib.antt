@@ -1,0 +1,13 @@
+pub mod KboEquations
+pub mod Orderings
+pub mod GroundLemmas
+pub mod Contexts
+pub mod Small
+pub mod Arguments
+pub mod PassLemmas
+pub mod KboLemmas
+pub mod WalkLemmas
+pub mod TableLemmas
+pub mod BlockLemmas
+pub mod LawsOfOrders
+pub mod Padding

@@ -1,0 +1,6 @@
+pub mod Weights
+pub mod Orders
+pub mod Sides
+pub mod Kbo
+pub mod Blocks
+pub mod Laws

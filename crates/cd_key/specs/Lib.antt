@@ -1,0 +1,6 @@
+pub mod Literals
+pub mod Forms
+pub mod Multisets
+pub mod Repeats
+pub mod Keys
+pub mod Laws

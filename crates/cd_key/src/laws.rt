@@ -1,0 +1,24 @@
+//! The laws of literals and keys that other crates build on. A function of this module does nothing: its
+//! contract is the law, and the check of this crate proves it.
+#![tactic(auto)]
+
+ghost use Rattle.cd_key.specs.Laws.{BoundedClausesCompare, LiteralFormsAreOrdered, KeysAreOrdered, NamesDecide, LiteralsFall, KeysFall};
+
+/// Clauses within bounds can be compared.
+pub fn bounded_clauses()
+    ensures { BoundedClausesCompare }
+{}
+
+/// Ground forms of literals and keys are in total orders, and keys under different names are never equal.
+pub fn orders()
+    ensures forms { LiteralFormsAreOrdered }
+    ensures keys { KeysAreOrdered }
+    ensures names { NamesDecide }
+{}
+
+/// Where an atom or a side of an equation gets smaller in the ground order, the literal does, and with a
+/// literal the key of its clause.
+pub fn falling()
+    ensures literals { LiteralsFall }
+    ensures keys { KeysFall }
+{}
