@@ -32,6 +32,11 @@ pub record Fetches (before now : Option (List (List ℕ × List ℕ))) (path : L
   pub capped : length given ≤ cap
   pub told : Gives before now ((path, given) ∷ [])
 
+-- what a fetch gave is the front of the file, as much of it as the cap lets through; nothing is said where the file is not told
+abbrev pub AppendsFirst : Option (List ℕ) → ℕ → List ℕ → List ℕ → Type 0
+AppendsFirst None cap old new = ⊤
+AppendsFirst (Some file) cap old new = new ≡ old ++ take cap file
+
 -- a device: the bytes that it took, where it tells them, and how often it has failed
 pub record Device : Type 0 where
   pub taken : Option (List ℕ)

@@ -1,6 +1,6 @@
 //! Files of the machine.
 ghost use Rattle.std.specs.Prelude.{◌≡◌, ◌+◌, ◌≤◌, ◌++◌, [], None, List, ℕ, length, take, OnOk, OnErr, IfSome, IsErrOf};
-ghost use Rattle.cd_outside.specs.Outside.{Rose, Fetches, Gives};
+ghost use Rattle.cd_outside.specs.Outside.{Rose, Fetches, Gives, AppendsFirst};
 ghost use Rattle.cd_outside.specs.Folder.{faults_after};
 
 use crate::{Bytes, FetchFault, Library};
@@ -40,11 +40,14 @@ impl<'a, R: Files> Library for Folder<'a, R> {
 
     ghost told = { λ _. None };
 
+    ghost holds = { λ _ _. None };
+
     /// No more than `cap` bytes are read. A file that can't be opened or read is a fault.
     fn fetch(&mut self, path: &Text, cap: u64, into: &mut Bytes) -> Result<(), FetchFault>
         ensures later { self.old ≤ self.new }
         ensures failed { IsErrOf result FetchFault.Failed → Rose self.old self.new }
         ensures gives { OnOk result (Fetches None None path.now cap into.old into.new) }
+        ensures front { OnOk result (AppendsFirst None cap into.old into.new) }
         ensures nothing { OnErr result (Gives {X = List ℕ × List ℕ} None None []) }
         ensures unchanged { OnErr result (into.new ≡ into.old) }
 

@@ -1,6 +1,6 @@
 //! Where files come from.
 ghost use Rattle.std.specs.Prelude.{◌≡◌, ℕ, ◌≤◌, [], Option, List, OnOk, OnErr, IsErrOf};
-ghost use Rattle.cd_outside.specs.Outside.{Rose, Fetches, Gives};
+ghost use Rattle.cd_outside.specs.Outside.{Rose, Fetches, Gives, AppendsFirst};
 ghost use Rattle.cd_outside.specs.declared.library.FetchFault.TheVariants.{Memory};
 
 use cd_list::{Sequence, Text};
@@ -37,11 +37,15 @@ pub trait Library {
     /// The paths and bytes that the library gave so far, where it tells them.
     ghost told: { Self → Option (List (List ℕ × List ℕ)) };
 
+    /// All bytes of the file with a path, where the library tells them.
+    ghost holds: { Self → List ℕ → Option (List ℕ) };
+
     /// Appends the first `cap` bytes of the file to `into`. On an error nothing is appended.
     fn fetch(&mut self, path: &Text, cap: u64, into: &mut Bytes) -> Result<(), FetchFault>
         ensures later { faults self.old ≤ faults self.new }
         ensures failed { IsErrOf result FetchFault.Failed → Rose (faults self.old) (faults self.new) }
         ensures gives { OnOk result (Fetches (told self.old) (told self.new) path.now cap into.old into.new) }
+        ensures front { OnOk result (AppendsFirst (holds self.old path.now) cap into.old into.new) }
         ensures nothing { OnErr result (Gives (told self.old) (told self.new) []) }
         ensures unchanged { OnErr result (into.new ≡ into.old) };
 }

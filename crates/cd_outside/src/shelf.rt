@@ -1,7 +1,7 @@
 //! Files in memory.
 ghost use Rattle.std.specs.Prelude.{◌≡◌, ℕ, ◌≤◌, [], ◌∷◌, ◌++◌, Some, List, take, OnOk, OnErr, IsErrOf, MatchOption, MatchResult};
 ghost use Rattle.std.specs.Option.{option_copied};
-ghost use Rattle.cd_outside.specs.Outside.{Rose, Fetches, Gives};
+ghost use Rattle.cd_outside.specs.Outside.{Rose, Fetches, Gives, AppendsFirst};
 ghost use Rattle.cd_outside.specs.Shelf.{bytes_of, front_of, called, faulted, gave};
 
 use crate::{Bytes, FetchFault, Library};
@@ -105,12 +105,15 @@ impl Library for Shelf {
 
     ghost told = { λ it. Some it.given };
 
+    ghost holds = { λ it path. bytes_of it.files path };
+
     /// A call fails where its number is one of those that fail or no file has the path, and for want of
     /// memory. Calls past number 2^64 - 1 have this number.
     fn fetch(&mut self, path: &Text, cap: u64, into: &mut Bytes) -> Result<(), FetchFault>
         ensures later { self.old.faults ≤ self.new.faults }
         ensures failed { IsErrOf result FetchFault.Failed → Rose self.old.faults self.new.faults }
         ensures gives { OnOk result (Fetches (Some self.old.given) (Some self.new.given) path.now cap into.old into.new) }
+        ensures front { OnOk result (AppendsFirst (bytes_of self.old.files path.now) cap into.old into.new) }
         ensures nothing { OnErr result (Gives (Some self.old.given) (Some self.new.given) []) }
         ensures unchanged { OnErr result (into.new ≡ into.old) }
 

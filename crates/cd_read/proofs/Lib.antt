@@ -4,3 +4,4 @@ pub mod FoundLemmas
 pub mod AgainLemmas
 pub mod BuildLemmas
 pub mod ParseLemmas
+pub mod WholeLemmas

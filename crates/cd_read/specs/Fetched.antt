@@ -5,7 +5,7 @@ use Rattle.cd_outside.specs.Outside.{Gives}
 use Rattle.cd_read.specs.declared.problem.Problem.{Problem}
 use Rattle.cd_read.specs.declared.reader.ReadFault.{ReadFault}
 use Rattle.cd_read.specs.declared.reader.ReadFault.TheVariants.{Library, Wrong, Memory}
-use Rattle.cd_read.specs.Problems.{Reads}
+use Rattle.cd_read.specs.Problems.{Reads, IsWholeWrong}
 
 -- the files that a library told: their paths and bytes
 abbrev pub Told : Type 0
@@ -22,6 +22,12 @@ abbrev pub IsReadFault : List ℕ → Told → Told → ReadFault → Type 0
 IsReadFault path before now (Library failed) = (failed ≡ path) × Gives before now []
 IsReadFault path before now (Wrong w) = (bytes : List ℕ) × Gives before now ((path, bytes) ∷ []) × Reads path bytes (Err w)
 IsReadFault path before now Memory = Unit {0}
+
+-- what is wrong with a file is wrong with the whole of it, where the library tells it
+abbrev pub IsWholeFault : List ℕ → Option (List ℕ) → ReadFault → Type 0
+IsWholeFault path file (Library failed) = Unit {0}
+IsWholeFault path file (Wrong w) = IsWholeWrong path file w
+IsWholeFault path file Memory = Unit {0}
 
 -- the fault is the library's
 abbrev pub IsOfLibrary : ReadFault → Type 0

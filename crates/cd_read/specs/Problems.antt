@@ -1,5 +1,5 @@
 -- The problem that a file's statements give.
-use Rattle.std.specs.Prelude.{◌≡◌, ◌≤◌, ◌<◌, ℕ, ◌+◌, List, [], ◌∷◌, length, Some, slice_get}
+use Rattle.std.specs.Prelude.{◌≡◌, ◌≤◌, ◌<◌, ℕ, ◌+◌, List, [], ◌∷◌, length, Option, None, Some, slice_get}
 use Rattle.std.specs.List.{AllByRecursion}
 use Rattle.std.specs.declared.result.Result.{Result}
 use Rattle.std.specs.declared.result.Result.TheVariants.{Ok, Err}
@@ -50,6 +50,16 @@ literals_count (s ∷ ss) = length s.literals + literals_count ss
 abbrev pub Reads : List ℕ → List ℕ → Result Problem Wrong → Type 0
 Reads path bytes (Ok p) = (statements : List Statement) × IsFile bytes statements × GivesProblem path statements p
 Reads path bytes (Err w) = ((statements : List Statement) → IsFile bytes statements → ⊥) × (w ≡ record { what = NotBuilt; file = path; at = 0 })
+
+-- the problem is that of the whole file, where the library tells it
+abbrev pub IsWhole : List ℕ → Option (List ℕ) → Problem → Type 0
+IsWhole path None p = Unit {0}
+IsWhole path (Some file) p = Reads path file (Ok p)
+
+-- what is wrong is wrong with the whole file, where the library tells it
+abbrev pub IsWholeWrong : List ℕ → Option (List ℕ) → Wrong → Type 0
+IsWholeWrong path None w = Unit {0}
+IsWholeWrong path (Some file) w = Reads path file (Err w)
 
 -- the atom's symbol is a predicate of the table that takes no arguments: so far there are no other atoms
 abbrev pub AtomFormed : List Symbol → Atom → Type 0

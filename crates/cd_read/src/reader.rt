@@ -3,8 +3,8 @@ ghost use Rattle.std.specs.Prelude.{◌≡◌, ◌≤◌, ◌↔◌, List, lengt
 ghost use Rattle.cd_outside.specs.Outside.{Rose};
 ghost use Rattle.cd_read.specs.declared.statement.Statement.{Statement};
 ghost use Rattle.cd_read.specs.Files.{IsFile};
-ghost use Rattle.cd_read.specs.Problems.{Reads, IsFormed, ArePropositional};
-ghost use Rattle.cd_read.specs.Fetched.{IsReadFrom, IsReadFault, IsOfLibrary};
+ghost use Rattle.cd_read.specs.Problems.{Reads, IsWhole, IsFormed, ArePropositional};
+ghost use Rattle.cd_read.specs.Fetched.{IsReadFrom, IsReadFault, IsOfLibrary, IsWholeFault};
 
 use crate::build::build;
 use crate::problem::{Problem, What, Wrong};
@@ -46,10 +46,12 @@ pub fn read_problem<L: Library>(
     path: &Text,
 ) -> Result<Problem, ReadFault>
     ensures problem { IfOk result (IsReadFrom path.now (L.told library.old) (L.told library.new)) }
+    ensures whole { IfOk result (IsWhole path.now (L.holds library.old path.now)) }
     ensures formed { IfOk result IsFormed }
     ensures few { IfOk result (λ p. length p.inputs ≤ 4096) }
     ensures propositional { IfOk result (λ p. ArePropositional p.inputs) }
     ensures fault { IfErr result (IsReadFault path.now (L.told library.old) (L.told library.new)) }
+    ensures whole_fault { IfErr result (IsWholeFault path.now (L.holds library.old path.now)) }
     ensures library { IfErr result (λ f. IsOfLibrary f → Rose (L.faults library.old) (L.faults library.new)) }
 {
     let mut bytes = Sequence::new(alloc);

@@ -6,7 +6,7 @@ use Rattle.std.specs.declared.result.Result.TheVariants.{Ok, Err}
 use Rattle.cd_clause.specs.Truth.{HaveNoModel}
 use Rattle.cd_outside.specs.Outside.{AppendsFront, Gives}
 use Rattle.cd_read.specs.declared.problem.Problem.{Problem}
-use Rattle.cd_read.specs.Problems.{Reads}
+use Rattle.cd_read.specs.Problems.{Reads, IsWhole, IsWholeWrong}
 use Rattle.cd_read.specs.Fetched.{Told}
 use Rattle.cd_text.specs.declared.line.Line.{Line}
 use Rattle.cd_check.specs.Accepted.{AcceptedText, input_clauses}
@@ -61,6 +61,21 @@ IsRead word before now SinkFault problem = ⊥
 IsRead word before now (Refuted peer) problem = IsProblemRead word before now problem
 IsRead word before now Saturated problem = IsProblemRead word before now problem
 IsRead word before now (Spent peer) problem = IsProblemRead word before now problem
+
+-- the problem is that of the whole file, where the library tells all bytes of its files
+abbrev pub IsWholeProblem : (List ℕ → Option (List ℕ)) → Option (List ℕ) → Option Problem → Type 0
+IsWholeProblem holds word problem = (path : List ℕ) (p : Problem) → word ≡ Some path → problem ≡ Some p → IsWhole path (holds path) p
+
+-- what is read, or refused, is the whole file, where the library tells it
+abbrev pub IsOfFile : (List ℕ → Option (List ℕ)) → Option (List ℕ) → Answer → Option Problem → Type 0
+IsOfFile holds word Usage problem = ⊤
+IsOfFile holds word (Refused w) problem = (path : List ℕ) → word ≡ Some path → IsWholeWrong path (holds path) w
+IsOfFile holds word (LibraryFault path) problem = ⊤
+IsOfFile holds word Memory problem = ⊤
+IsOfFile holds word SinkFault problem = ⊤
+IsOfFile holds word (Refuted peer) problem = IsWholeProblem holds word problem
+IsOfFile holds word Saturated problem = IsWholeProblem holds word problem
+IsOfFile holds word (Spent peer) problem = IsWholeProblem holds word problem
 
 abbrev pub IsLibraryFault : Answer → Type 0
 IsLibraryFault (LibraryFault path) = ⊤

@@ -3,7 +3,7 @@ ghost use Rattle.std.specs.Prelude.{◌≡◌, ◌≢◌, ◌<◌, [], None, len
 ghost use Rattle.std.specs.Option.{option_copied};
 ghost use Rattle.cd_outside.specs.Outside.{Rose};
 ghost use Rattle.cd_top.specs.Words.{file_word, begins_with_hyphen};
-ghost use Rattle.cd_top.specs.Headline.{status_of, IsRead, IsLibraryFault, HasDefaults, RunEnds, AtEachMoment, HasModelsOf, AccountsForAll, Refutes, TextIs, Taken, IsAnswerTo};
+ghost use Rattle.cd_top.specs.Headline.{status_of, IsRead, IsOfFile, IsLibraryFault, HasDefaults, RunEnds, AtEachMoment, HasModelsOf, AccountsForAll, Refutes, TextIs, Taken, IsAnswerTo};
 
 use crate::answer::{Account, Answer, Outcome};
 use crate::sending::send;
@@ -31,6 +31,7 @@ pub fn prove<R: Threads + Wait + Sync, L: Library, K: Sink, G: Gate + Sync>(
 ) -> Outcome
     // The words name a file, and its bytes spell the problem.
     ensures read { IsRead (file_word words.now) (L.told library.old) (L.told library.new) result.made result.account.problem }
+    ensures file { IsOfFile (L.holds library.old) (file_word words.now) result.made result.account.problem }
     ensures library_fault { IsLibraryFault result.made → Rose (L.faults library.old) (L.faults library.new) }
 
     // The recorded run is one peer's. It ends where the answer says, it keeps the models of the problem and
@@ -124,6 +125,7 @@ fn make<L: Library>(
     library: &mut L,
 ) -> Result<(Answer, Account), AllocError>
     ensures read { IfOk result (λ r. IsRead (file_word words.now) (L.told library.old) (L.told library.new) r.0 r.1.problem) }
+    ensures file { IfOk result (λ r. IsOfFile (L.holds library.old) (file_word words.now) r.0 r.1.problem) }
     ensures library_fault { IfOk result (λ r. IsLibraryFault r.0 → Rose (L.faults library.old) (L.faults library.new)) }
     ensures defaults { IfOk result (λ r. HasDefaults r.1) }
     ensures run { IfOk result (λ r. RunEnds r.1 r.0 r.1.problem) }
