@@ -54,8 +54,12 @@ fn wide(alloc: Global, width: u16) -> Result<Term, AllocError> {
 }
 
 fn is_value_of_variable(alloc: Global, value: Term) -> Result<bool, AllocError> {
+    let wanted = value.copy(alloc)?;
     let values = values(alloc, value)?;
-    Ok(apply(alloc, &Term::Var(0), &values).is_ok())
+    match apply(alloc, &Term::Var(0), &values) {
+        Ok(term) => Ok(term.equals(&wanted)),
+        Err(_) => Ok(false),
+    }
 }
 
 #[test]
