@@ -27,8 +27,17 @@ fn words_of(alloc: Global, word: Option<&str>) -> Result<Sequence<Text>, AllocEr
     Ok(words)
 }
 
-// What a run over the one file `t.p` answers, and what its sink took.
+// What a run over the one file `t.p` with these bytes answers, and what its sink took.
 fn run<R: Threads + Wait + Sync>(
+    rt: &R,
+    alloc: Global,
+    bytes: &[u8],
+) -> Result<(u8, Page), AllocError> {
+    run_on(rt, alloc, Some("t.p"), bytes, Sequence::new(alloc))
+}
+
+// The same where the word is another one, or none, and some of the sink's calls fail.
+fn run_on<R: Threads + Wait + Sync>(
     rt: &R,
     alloc: Global,
     word: Option<&str>,
@@ -51,13 +60,7 @@ fn run<R: Threads + Wait + Sync>(
 
 #[test]
 fn an_empty_file_is_saturated(rt: HostRuntime) -> Result<(), Fail> {
-    let (status, page) = run(
-        &rt,
-        rt.alloc(),
-        Some("t.p"),
-        b"".as_slice(),
-        Sequence::new(rt.alloc()),
-    )?;
+    let (status, page) = run(&rt, rt.alloc(), b"".as_slice())?;
     let text = b"% SZS status GaveUp for t.p
 % aquarius saturated, peers 1, clauses 0
 % aquarius list start
@@ -71,13 +74,7 @@ fn an_empty_file_is_saturated(rt: HostRuntime) -> Result<(), Fail> {
 #[test]
 fn a_clause_and_its_negation_are_refuted(rt: HostRuntime) -> Result<(), Fail> {
     let file = b"cnf(a,axiom,p).\ncnf(b,axiom,~p).\n";
-    let (status, page) = run(
-        &rt,
-        rt.alloc(),
-        Some("t.p"),
-        file.as_slice(),
-        Sequence::new(rt.alloc()),
-    )?;
+    let (status, page) = run(&rt, rt.alloc(), file.as_slice())?;
     let text = b"% SZS status Unsatisfiable for t.p
 % SZS output start CNFRefutation for t.p
 cnf(c1,axiom,(p),file('t.p',a)).
@@ -92,13 +89,7 @@ cnf(c3,plain,$false,inference(resolve,[status(thm),at(0,0),subst([])],[c1,c2])).
 
 #[test]
 fn a_tautology_is_dropped(rt: HostRuntime) -> Result<(), Fail> {
-    let (status, page) = run(
-        &rt,
-        rt.alloc(),
-        Some("t.p"),
-        b"cnf(a,axiom,p | ~p).\n".as_slice(),
-        Sequence::new(rt.alloc()),
-    )?;
+    let (status, page) = run(&rt, rt.alloc(), b"cnf(a,axiom,p | ~p).\n".as_slice())?;
     let text = b"% SZS status GaveUp for t.p
 % aquarius saturated, peers 1, clauses 0
 % aquarius list start
@@ -136,9 +127,7 @@ fn a_clause_that_another_subsumes_is_dropped(rt: HostRuntime) -> Result<(), Fail
     let (status, page) = run(
         &rt,
         rt.alloc(),
-        Some("t.p"),
         b"cnf(a,axiom,p).\ncnf(b,axiom,q | p).\ncnf(c,axiom,~q | r).\n".as_slice(),
-        Sequence::new(rt.alloc()),
     )?;
     let text = b"% SZS status GaveUp for t.p
 % aquarius saturated, peers 1, clauses 2
@@ -155,13 +144,7 @@ cnf(n0_1,plain,(~q | r)).
 #[test]
 fn repeated_literals_are_tidied_in_a_line_of_their_own(rt: HostRuntime) -> Result<(), Fail> {
     let file = b"cnf(a,axiom,q | p).\ncnf(b,axiom,~p | q).\ncnf(c,axiom,~q).\n";
-    let (status, page) = run(
-        &rt,
-        rt.alloc(),
-        Some("t.p"),
-        file.as_slice(),
-        Sequence::new(rt.alloc()),
-    )?;
+    let (status, page) = run(&rt, rt.alloc(), file.as_slice())?;
     let text = b"% SZS status Unsatisfiable for t.p
 % SZS output start CNFRefutation for t.p
 cnf(c1,axiom,(q | p),file('t.p',a)).
@@ -191,13 +174,7 @@ fn units(alloc: Global, count: u64) -> Result<Bytes, AllocError> {
 #[test]
 fn a_peer_stops_at_its_fifty_thousandth_task(rt: HostRuntime) -> Result<(), Fail> {
     let file = units(rt.alloc(), 224)?;
-    let (status, page) = run(
-        &rt,
-        rt.alloc(),
-        Some("t.p"),
-        file.as_slice(),
-        Sequence::new(rt.alloc()),
-    )?;
+    let (status, page) = run(&rt, rt.alloc(), file.as_slice())?;
     let text = b"% SZS status ResourceOut for t.p
 % aquarius spent, peer 0, units 50000
 ";
@@ -209,13 +186,7 @@ fn a_peer_stops_at_its_fifty_thousandth_task(rt: HostRuntime) -> Result<(), Fail
 #[test]
 fn as_many_tasks_as_it_may_are_done(rt: HostRuntime) -> Result<(), Fail> {
     let file = units(rt.alloc(), 223)?;
-    let (status, _) = run(
-        &rt,
-        rt.alloc(),
-        Some("t.p"),
-        file.as_slice(),
-        Sequence::new(rt.alloc()),
-    )?;
+    let (status, _) = run(&rt, rt.alloc(), file.as_slice())?;
     assert_eq!(rt; status, 1);
     Ok(())
 }
@@ -227,12 +198,10 @@ fn a_file_of_65536_bytes_is_read_and_no_longer_one(rt: HostRuntime) -> Result<()
         file.extend(b"cnf(a,axiom,p).\n")?;
     }
     file.truncate(65_536);
-    let fails = Sequence::new(rt.alloc());
-    let (status, _) = run(&rt, rt.alloc(), Some("t.p"), file.as_slice(), fails)?;
+    let (status, _) = run(&rt, rt.alloc(), file.as_slice())?;
     assert_eq!(rt; status, 1);
     file.extend(b"\n")?;
-    let fails = Sequence::new(rt.alloc());
-    let (status, page) = run(&rt, rt.alloc(), Some("t.p"), file.as_slice(), fails)?;
+    let (status, page) = run(&rt, rt.alloc(), file.as_slice())?;
     assert_eq!(rt; status, 65);
     assert_eq!(rt;
         page.bytes(),
@@ -244,13 +213,7 @@ fn a_file_of_65536_bytes_is_read_and_no_longer_one(rt: HostRuntime) -> Result<()
 #[test]
 fn only_the_ancestors_of_the_empty_clause_are_printed(rt: HostRuntime) -> Result<(), Fail> {
     let file = b"cnf(a,axiom,q).\ncnf(b,axiom,~p).\ncnf(c,axiom,r).\ncnf(d,axiom,p).\n";
-    let (status, page) = run(
-        &rt,
-        rt.alloc(),
-        Some("t.p"),
-        file.as_slice(),
-        Sequence::new(rt.alloc()),
-    )?;
+    let (status, page) = run(&rt, rt.alloc(), file.as_slice())?;
     let text = b"% SZS status Unsatisfiable for t.p
 % SZS output start CNFRefutation for t.p
 cnf(c1,axiom,(~p),file('t.p',b)).
@@ -267,7 +230,7 @@ cnf(c3,plain,$false,inference(resolve,[status(thm),at(0,0),subst([])],[c2,c1])).
 fn a_sink_that_fails_at_the_second_line_has_the_first(rt: HostRuntime) -> Result<(), Fail> {
     let file = b"cnf(a,axiom,p).\ncnf(b,axiom,~p).\n";
     let fails = Sequence::from_slice(rt.alloc(), [(1, 0)].as_slice())?;
-    let (status, page) = run(&rt, rt.alloc(), Some("t.p"), file.as_slice(), fails)?;
+    let (status, page) = run_on(&rt, rt.alloc(), Some("t.p"), file.as_slice(), fails)?;
     assert_eq!(rt; status, 74);
     assert_eq!(rt;
         page.bytes(),
@@ -278,7 +241,7 @@ fn a_sink_that_fails_at_the_second_line_has_the_first(rt: HostRuntime) -> Result
 
 #[test]
 fn a_missing_file_cannot_be_read(rt: HostRuntime) -> Result<(), Fail> {
-    let (status, page) = run(
+    let (status, page) = run_on(
         &rt,
         rt.alloc(),
         Some("x.p"),
@@ -292,7 +255,7 @@ fn a_missing_file_cannot_be_read(rt: HostRuntime) -> Result<(), Fail> {
 
 #[test]
 fn no_words_are_a_fault_of_usage(rt: HostRuntime) -> Result<(), Fail> {
-    let (status, page) = run(
+    let (status, page) = run_on(
         &rt,
         rt.alloc(),
         None,
@@ -306,7 +269,7 @@ fn no_words_are_a_fault_of_usage(rt: HostRuntime) -> Result<(), Fail> {
 
 #[test]
 fn a_word_that_begins_with_a_hyphen_is_a_fault_of_usage(rt: HostRuntime) -> Result<(), Fail> {
-    let (status, page) = run(
+    let (status, page) = run_on(
         &rt,
         rt.alloc(),
         Some("-x"),
@@ -320,13 +283,7 @@ fn a_word_that_begins_with_a_hyphen_is_a_fault_of_usage(rt: HostRuntime) -> Resu
 
 #[test]
 fn a_file_of_another_form_is_refused(rt: HostRuntime) -> Result<(), Fail> {
-    let (status, page) = run(
-        &rt,
-        rt.alloc(),
-        Some("t.p"),
-        b"cnf(a,axiom,p)".as_slice(),
-        Sequence::new(rt.alloc()),
-    )?;
+    let (status, page) = run(&rt, rt.alloc(), b"cnf(a,axiom,p)".as_slice())?;
     assert_eq!(rt; status, 65);
     assert_eq!(rt;
         page.bytes(),
