@@ -125,7 +125,7 @@ fn work(alloc: Global, mut local: Local) -> Result<Local, AllocError>
     let Some(task) = local.owed.pop_front() else {
         unreachable!();
     };
-    let found = conclude(alloc, local.me, local.known.as_slice(), task)?;
+    let found = conclude(alloc, &local, task)?;
     let conclusions = found.len() as u64;
     add_items(alloc, &mut local.pending, task, found)?;
     local.done.push(Done { task, conclusions })?;

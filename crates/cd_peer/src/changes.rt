@@ -8,7 +8,7 @@ ghost use Rattle.cd_ledger.specs.Lean.{IsUsable};
 
 use cd_clause::{Clause, is_tidied, tidy};
 use cd_infer::{Conclusion, Conclusions, pair, solo};
-use cd_ledger::{Item, Known, Origin, Outcome, Record, Settled, Status, Task, Verdict};
+use cd_ledger::{Item, Known, Local, Origin, Outcome, Record, Settled, Status, Task, Verdict};
 use cd_list::{Copied, Queue, Sequence};
 use cd_names::{Name, Names};
 use cd_read::Input;
@@ -185,18 +185,13 @@ fn known_at(known: &[Known], name: Name) -> &Known
 }
 
 /// The conclusions of a task whose names are known.
-pub fn conclude(
-    alloc: Global,
-    me: u16,
-    known: &[Known],
-    task: Task,
-) -> Result<Conclusions, AllocError>
-    requires numbered { AreNumbered me known.now }
-    requires there { IsTaskKnown me (length known.now) task }
-    requires usable { AllByRecursion (λ x. IsUsable x.entry.clause) known.now }
-    ensures { IfOk result (λ found. Concludes known.now task found) }
+pub fn conclude(alloc: Global, local: &Local, task: Task) -> Result<Conclusions, AllocError>
+    requires numbered { AreNumbered local.now.me local.now.known }
+    requires there { IsTaskKnown local.now.me (length local.now.known) task }
+    requires usable { AllByRecursion (λ x. IsUsable x.entry.clause) local.now.known }
+    ensures { IfOk result (λ found. Concludes local.now.known task found) }
 {
-    let _ = me;
+    let known = local.known.as_slice();
     match task {
         Task::Solo(a) => {
             let left = known_at(known, a);
