@@ -7,7 +7,7 @@ use Rattle.cd_steps.proofs.Unique.{steps_give_one}
 use Rattle.cd_read.specs.declared.problem.Problem.{Problem}
 use Rattle.cd_text.specs.declared.line.Line.{Line}
 use Rattle.cd_ledger.specs.declared.Known.{Known}
-use Rattle.cd_ledger.proofs.Lists.{get_at}
+use Rattle.cd_list.proofs.Lists.{get_at}
 use Rattle.cd_build.specs.Marks.{line_clause, first_premise, second_premise, EachGives, line_by, last_clause, clause_before, IsAdded, AreAdded}
 
 -- where the lines of the other steps join, those of all have joined

@@ -1,9 +1,12 @@
 -- Which names are wanted, and which records are chosen.
-use Rattle.std.proofs.Common.{◌≡◌, ◌≢◌, ℕ, zero, suc, ◌+◌, ◌<◌, ◌≤◌, ◌==◌, Bool, true, false, ◌&&◌, ◌||◌, cond, List, [], ◌∷◌, ◌++◌, length, Option, Some, None, slice_get, refl, sym, ap, ◌∙◌, subst, arith, append_assoc, append-nil}
+use Rattle.std.proofs.Common.{◌≡◌, ℕ, zero, suc, ◌+◌, ◌<◌, ◌≤◌, Bool, true, false, ◌||◌, cond, List, [], ◌∷◌, ◌++◌, length, Option, Some, None, slice_get, refl, sym, ap, ◌∙◌, subst, arith, append_assoc}
 use Rattle.std.specs.List.{AllByRecursion, filter, find, flat_map, list_any}
-use Rattle.std.proofs.lemmas.Bool.Decides.{nat_tests}
 use Rattle.std.proofs.lemmas.List.{length-append}
 use Rattle.std.proofs.lemmas.List.Folds.{list_any-append}
+use Rattle.std.proofs.Math.Bool.{or-false, or-true}
+use Rattle.std.proofs.lemmas.Option.{slice_get_within}
+use Rattle.cd_laws.proofs.RightLemmas.{records_push}
+use Rattle.cd_ledger.proofs.NameLemmas.{same_name, same_parts, other_name, equal_names}
 use Rattle.cd_clause.specs.declared.Clause.{Clause}
 use Rattle.cd_names.specs.declared.names.Name.{Name}
 use Rattle.cd_steps.specs.declared.Step.{Step}
@@ -11,42 +14,12 @@ use Rattle.cd_steps.specs.declared.Step.TheVariants.{Input, Resolve, Tidy}
 use Rattle.cd_read.specs.declared.problem.Problem.{Problem}
 use Rattle.cd_ledger.specs.declared.Record.{Record}
 use Rattle.cd_ledger.specs.Names.{name_eq, names_in, add_once, each_once, cites_of}
-use Rattle.cd_ledger.proofs.Lists.{all_append}
+use Rattle.cd_list.proofs.Lists.{all_append}
 use Rattle.cd_laws.specs.Right.{IsNamed, AreStepsRight, IsRecordRight, AreRecordsRight}
 use Rattle.cd_build.specs.Derivation.{Chosen, is_wanted, choose}
 use Rattle.cd_build.specs.Marks.{IsPlace}
 
--- ---- names
-
-same_number : (n : ℕ) → (n == n) ≡ true
-same_number n = grind (arith, nat_tests)
-
-pub same_name : (n : Name) → name_eq n n ≡ true
-same_name n = ap (λ (b : Bool). b && (n.seq == n.seq)) (same_number n.peer) ∙ same_number n.seq
-
-other_number : (m n : ℕ) → m ≢ n → (m == n) ≡ false
-other_number m n h = grind (arith, nat_tests)
-
-last_false : (b c : Bool) → c ≡ false → (b && c) ≡ false
-last_false true c h = h
-last_false false c h = refl
-
--- names of two places are two
-pub other_name : (a b : Name) → a.seq ≢ b.seq → name_eq a b ≡ false
-other_name a b h = last_false (a.peer == b.peer) (a.seq == b.seq) (other_number a.seq b.seq h)
-
-pub same_parts : (a b : Name) → a.peer ≡ b.peer → a.seq ≡ b.seq → a ≡ b
-same_parts a b peer seq = ap (λ (p : ℕ). record { peer = p; seq = a.seq }) peer ∙ ap (λ (s : ℕ). record { peer = b.peer; seq = s }) seq
-
 -- ---- wanted names
-
-or_false : (b : Bool) → (b || false) ≡ b
-or_false true = refl
-or_false false = refl
-
-or_true : (b : Bool) → (b || true) ≡ true
-or_true true = refl
-or_true false = refl
 
 pub wanted_append : (xs ys : List Name) (n : Name) → is_wanted (xs ++ ys) n ≡ (is_wanted xs n || is_wanted ys n)
 wanted_append xs ys n = list_any-append (λ m. name_eq m n) xs ys
@@ -59,18 +32,6 @@ none_later me count (m ∷ ns) n all late =
     ap (λ (b : Bool). b || is_wanted ns n) (other_name m n (λ e. absurd (omega arith))) ∙ none_later me count ns n all.1 late
 
 -- ---- names, each once
-
-both_true : (b c : Bool) → (b && c) ≡ true → (b ≡ true) × (c ≡ true)
-both_true true c h = (refl, h)
-both_true false c h = absurd cc
-
-equal_numbers : (m n : ℕ) → (m == n) ≡ true → m ≡ n
-equal_numbers m n h = grind (arith, nat_tests, h)
-
-equal_names : (a b : Name) → name_eq a b ≡ true → a ≡ b
-equal_names a b h =
-    let both = both_true (a.peer == b.peer) (a.seq == b.seq) h in
-    same_parts a b (equal_numbers a.peer b.peer both.0) (equal_numbers a.seq b.seq both.1)
 
 -- what holds of names holds of each of them once
 once_each : (P : Name → Type 0) (seen ns : List Name) → AllByRecursion P seen → AllByRecursion P ns → AllByRecursion P (each_once seen ns)
@@ -93,7 +54,7 @@ add_own seen n = by (list_any (λ x. name_eq x n) seen) refl
   where
     by : (b : Bool) → list_any (λ x. name_eq x n) seen ≡ b → is_wanted (cond b seen (seen ++ n ∷ [])) n ≡ true
     by true is = is
-    by false is = wanted_append seen (n ∷ []) n ∙ ap (λ (b : Bool). is_wanted seen n || (b || false)) (same_name n) ∙ or_true (is_wanted seen n)
+    by false is = wanted_append seen (n ∷ []) n ∙ ap (λ (b : Bool). is_wanted seen n || (b || false)) (same_name n) ∙ or-true (is_wanted seen n)
 
 once_more : (seen ns : List Name) (n : Name) → is_wanted seen n ≡ true → is_wanted (each_once seen ns) n ≡ true
 once_more seen [] n is = is
@@ -111,7 +72,7 @@ all_names : (P : Name → Type 0) (ns : List Name) → ((n : Name) → is_wanted
 all_names P [] each = tt
 all_names P (n ∷ ns) each = (
   each n (ap (λ (b : Bool). b || is_wanted ns n) (same_name n)),
-  all_names P ns (λ m is. each m (ap (λ (b : Bool). name_eq n m || b) is ∙ or_true (name_eq n m))),
+  all_names P ns (λ m is. each m (ap (λ (b : Bool). name_eq n m || b) is ∙ or-true (name_eq n m))),
 )
 
 -- what holds of what the steps cite holds of each name in them
@@ -120,13 +81,8 @@ all_cited P ss each = all_names P (flat_map names_in ss) (λ n is. each n (once_
 
 -- ---- what a right record cites
 
-within : {A : Type 0} (xs : List A) (k : ℕ) (x : A) → slice_get xs k ≡ Some x → k < length xs
-within [] k x there = absurd cc
-within (y ∷ xs) zero x there = omega arith
-within (y ∷ xs) (suc k) x there = let others = within xs k x there in omega arith
-
 named_placed : (me : ℕ) (before : List Record) (n : Name) (r : Record) → IsNamed me before n r → IsPlace me (length before) n
-named_placed me before n r is = record { peer = is.peer; earlier = within before n.seq r is.there }
+named_placed me before n r is = record { peer = is.peer; earlier = slice_get_within before n.seq r is.there }
 
 names_placed : (p : Problem) (me : ℕ) (before : List Record) (current : Option Clause) (ss : List Step) (c : Clause) → AreStepsRight p me before current ss c → AllByRecursion (IsPlace me (length before)) (flat_map names_in ss)
 names_placed p me before current [] c ok = tt
@@ -143,14 +99,6 @@ pub cites_placed : (p : Problem) (me : ℕ) (before : List Record) (r : Record) 
 cites_placed p me before r ok =
     subst (λ (ns : List Name). AllByRecursion (IsPlace me (length before)) ns) (sym ok.cites) (steps_placed p me before r.steps r.clause ok.steps)
 
--- ---- lists of right records
-
-pub right_push : (p : Problem) (me : ℕ) (before xs : List Record) (r : Record) → AreRecordsRight p me before xs → IsRecordRight p me (before ++ xs) r → AreRecordsRight p me before (xs ++ r ∷ [])
-right_push p me before [] r right here = (subst (λ (l : List Record). IsRecordRight p me l r) (append-nil before) here, tt)
-right_push p me before (x ∷ xs) r right here =
-    let e : before ++ x ∷ xs ≡ (before ++ x ∷ []) ++ xs = sym (append_assoc before (x ∷ []) xs) in
-    (right.0, right_push p me (before ++ x ∷ []) xs r right.1 (subst (λ (l : List Record). IsRecordRight p me l r) e here))
-
 -- ---- choosing
 
 chosen_by : Bool → Record → Chosen → Chosen
@@ -158,7 +106,7 @@ chosen_by b r later = cond b (record { records = r ∷ later.records; wanted = l
 
 keep_by : (b : Bool) (r : Record) (later : Chosen) (n : Name) → is_wanted r.cites n ≡ false → is_wanted (chosen_by b r later).wanted n ≡ is_wanted later.wanted n
 unfolding chosen_by
-keep_by true r later n none = wanted_append later.wanted r.cites n ∙ ap (λ (t : Bool). is_wanted later.wanted n || t) none ∙ or_false (is_wanted later.wanted n)
+keep_by true r later n none = wanted_append later.wanted r.cites n ∙ ap (λ (t : Bool). is_wanted later.wanted n || t) none ∙ or-false (is_wanted later.wanted n)
 keep_by false r later n none = refl
 
 more_by : (b : Bool) (r : Record) (later : Chosen) (n : Name) → is_wanted later.wanted n ≡ true → is_wanted (chosen_by b r later).wanted n ≡ true
@@ -168,7 +116,7 @@ more_by false r later n is = is
 
 cited_by : (b : Bool) (r : Record) (later : Chosen) (n : Name) → b ≡ true → is_wanted r.cites n ≡ true → is_wanted (chosen_by b r later).wanted n ≡ true
 unfolding chosen_by
-cited_by true r later n holds is = wanted_append later.wanted r.cites n ∙ ap (λ (t : Bool). is_wanted later.wanted n || t) is ∙ or_true (is_wanted later.wanted n)
+cited_by true r later n holds is = wanted_append later.wanted r.cites n ∙ ap (λ (t : Bool). is_wanted later.wanted n || t) is ∙ or-true (is_wanted later.wanted n)
 cited_by false r later n holds is = absurd cc
 
 records_by : (b : Bool) (r : Record) (later : Chosen) → (chosen_by b r later).records ≡ cond b (r ∷ later.records) later.records
@@ -222,7 +170,7 @@ chosen_kept p me goal all before [] is right right_rest = refl
 chosen_kept p me goal all before (r ∷ rest) is right right_rest =
     let later = choose goal rest in
     let more : all ≡ (before ++ r ∷ []) ++ rest = is ∙ sym (append_assoc before (r ∷ []) rest) in
-    let others = chosen_kept p me goal all (before ++ r ∷ []) rest more (right_push p me [] before r right right_rest.0) right_rest.1 in
+    let others = chosen_kept p me goal all (before ++ r ∷ []) rest more (records_push p me [] before r right right_rest.0) right_rest.1 in
     let head : is_wanted (choose goal all).wanted r.name ≡ is_wanted later.wanted r.name =
     ap (λ (l : List Record). is_wanted (choose goal l).wanted r.name) is ∙ head_wanted p me before rest goal r right right_rest.0 in
     records_by (is_wanted later.wanted r.name) r later

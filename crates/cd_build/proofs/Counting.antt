@@ -3,6 +3,9 @@ use Rattle.std.proofs.Common.{◌≡◌, ℕ, zero, suc, ◌+◌, ◌<◌, ◌�
 use Rattle.std.specs.List.{AllByRecursion, filter, flat_map}
 use Rattle.std.proofs.lemmas.List.{length-append}
 use Rattle.std.proofs.lemmas.List.Elements.{filter-append}
+use Rattle.std.proofs.lemmas.Option.{slice_get_within}
+use Rattle.cd_list.proofs.Numbers.{below_next}
+use Rattle.cd_ledger.proofs.NameLemmas.{same_name, other_name}
 use Rattle.cd_names.specs.declared.names.Name.{Name}
 use Rattle.cd_read.specs.declared.problem.Problem.{Problem}
 use Rattle.cd_text.specs.declared.line.Line.{Line}
@@ -11,11 +14,11 @@ use Rattle.cd_ledger.specs.declared.Local.{Local}
 use Rattle.cd_ledger.specs.declared.Record.{Record}
 use Rattle.cd_ledger.specs.declared.Verdict.TheVariants.{Refuted}
 use Rattle.cd_ledger.specs.Names.{name_eq, names_in}
-use Rattle.cd_ledger.proofs.Lists.{all_append}
+use Rattle.cd_list.proofs.Lists.{all_append}
 use Rattle.cd_laws.specs.Right.{record_of, IsRecordRight, AreRecordsRight, IsRight}
 use Rattle.cd_build.specs.Derivation.{Traced, entry_of, IsTraced, is_wanted, choose, last_names, number_of, lines_of_steps, lines_from, IsDerivation}
 use Rattle.cd_build.specs.Marks.{place_name, all_wanted, AreMarks, is_marked, EachGives, AreAddedIf}
-use Rattle.cd_build.proofs.Choosing.{same_name, other_name, wanted_in, closed, find_named, all_cited}
+use Rattle.cd_build.proofs.Choosing.{wanted_in, closed, find_named, all_cited}
 use Rattle.cd_build.proofs.Tracing.{StandBefore, each_gives, steps_given, IsNumbered, added_steps}
 use Rattle.cd_build.proofs.Numbering.{total, total_append, entries_append, lines_append, IsTracedRight, length_lines}
 use Rattle.cd_build.proofs.Refuting.{whole, ends_right}
@@ -161,32 +164,17 @@ cited_numbers p me known i r numbers lines w built kept =
     all_cited (IsNumbered me (take i all) (kept_of all) numbers) r.steps (λ n cited a named.
     let zero_plus : n.seq ≡ 0 + n.seq = omega arith in
     let found = find_named p me [] (take i all) n n.seq a w.front named.peer zero_plus named.there in
-    let small : n.seq < i = omega (arith, within (take i all) n.seq a named.there, w.at.size) in
+    let small : n.seq < i = omega (arith, slice_get_within (take i all) n.seq a named.there, w.at.size) in
     let wanted : is_wanted (choose goal all).wanted n ≡ true =
     closed p me goal all (take i all) (drop (i + 1) all) r n w.at.split w.front w.here kept (subst (λ (ns : List Name). is_wanted ns n ≡ true) (sym w.here.cites) cited) in
     let a_kept : keeps_of all a ≡ true = ap (λ (x : Name). is_wanted (choose goal all).wanted x) found.1 ∙ wanted in
     built.numbered n.seq a small (sym (get_front all i n.seq small) ∙ named.there) a_kept ∙ ap (number_of 0 (kept_of all)) found.1)
-  where
-    within : (xs : List Record) (k : ℕ) (x : Record) → slice_get xs k ≡ Some x → k < length xs
-    within [] k x there = absurd cc
-    within (y ∷ xs) zero x there = omega arith
-    within (y ∷ xs) (suc k) x there = let others = within xs k x there in omega arith
-
-below_or_same : (k i : ℕ) → k < i + 1 → (k < i) ⊎ (k ≡ i)
-below_or_same zero zero small = inr refl
-below_or_same zero (suc i) small = inl (omega arith)
-below_or_same (suc k) zero small = absurd (omega arith)
-below_or_same (suc k) (suc i) small = by (below_or_same k i (omega arith))
-  where
-    by : (k < i) ⊎ (k ≡ i) → (suc k < suc i) ⊎ (suc k ≡ suc i)
-    by (inl below) = inl (omega arith)
-    by (inr same) = inr (ap suc same)
 
 -- the numbers at places up to this one
 numbered_more : (p : Problem) (me : ℕ) (known : List Known) (i : ℕ) (r : Record) (numbers : List ℕ) (lines : List Line) (number : ℕ) → slice_get (map record_of known) i ≡ Some r → IsBuilt p me known i numbers lines
     → (keeps_of (map record_of known) r ≡ true → number ≡ number_of 0 (kept_of (map record_of known)) r.name)
     → (k : ℕ) (x : Record) → k < i + 1 → slice_get (map record_of known) k ≡ Some x → keeps_of (map record_of known) x ≡ true → get_or (numbers ++ number ∷ []) k 0 ≡ number_of 0 (kept_of (map record_of known)) x.name
-numbered_more p me known i r numbers lines number there built own k x small at kept = by (below_or_same k i small)
+numbered_more p me known i r numbers lines number there built own k x small at kept = by (below_next k i small)
   where
     all : List Record
     all = map record_of known

@@ -2,6 +2,9 @@
 use Rattle.std.proofs.Common.{◌≡◌, ◌≢◌, ℕ, zero, suc, ◌+◌, ◌-◌, ◌<◌, ◌≤◌, ◌⊎◌, inl, inr, Bool, true, false, ◌||◌, cond, List, [], ◌∷◌, ◌++◌, length, map, drop, replicate, Some, slice_get, slice_set, unwrap_or, refl, sym, ap, ◌∙◌, subst, arith, append_assoc, append-nil}
 use Rattle.std.specs.List.{AllByRecursion}
 use Rattle.std.proofs.lemmas.List.{length-append, length-set, length-replicate}
+use Rattle.std.proofs.Math.Bool.{or-false, or-true}
+use Rattle.std.proofs.lemmas.Bool.{cases_eq}
+use Rattle.cd_ledger.proofs.NameLemmas.{same_name, other_name, same_parts}
 use Rattle.cd_names.specs.declared.names.Name.{Name}
 use Rattle.cd_read.specs.declared.problem.Problem.{Problem}
 use Rattle.cd_ledger.specs.declared.Known.{Known}
@@ -10,7 +13,7 @@ use Rattle.cd_ledger.specs.Names.{name_eq}
 use Rattle.cd_laws.specs.Right.{record_of, AreRecordsRight}
 use Rattle.cd_build.specs.Derivation.{Chosen, choose, is_wanted, last_names, with_record}
 use Rattle.cd_build.specs.Marks.{place_name, AreMarks, is_marked, IsPlace, ArePlaced, marked}
-use Rattle.cd_build.proofs.Choosing.{same_name, other_name, same_parts, wanted_append, cites_placed}
+use Rattle.cd_build.proofs.Choosing.{wanted_append, cites_placed}
 
 -- ---- marks
 
@@ -26,39 +29,21 @@ get_set_other (x ∷ xs) zero (suc k) v other = refl
 get_set_other (x ∷ xs) (suc i) zero v other = refl
 get_set_other (x ∷ xs) (suc i) (suc k) v other = get_set_other xs i k v (λ e. other (ap suc e))
 
-or_false : (b : Bool) → (b || false) ≡ b
-or_false true = refl
-or_false false = refl
-
-or_true : (b : Bool) → (b || true) ≡ true
-or_true true = refl
-or_true false = refl
-
-same_or_other : (m n : ℕ) → (m ≡ n) ⊎ (m ≢ n)
-same_or_other zero zero = inl refl
-same_or_other zero (suc n) = inr (λ e. absurd (omega arith))
-same_or_other (suc m) zero = inr (λ e. absurd (omega arith))
-same_or_other (suc m) (suc n) = by (same_or_other m n)
-  where
-    by : (m ≡ n) ⊎ (m ≢ n) → (suc m ≡ suc n) ⊎ (suc m ≢ suc n)
-    by (inl e) = inl (ap suc e)
-    by (inr other) = inr (λ e. other (omega arith))
-
 mark_one : (me count : ℕ) (names : List Name) (marks : List Bool) (n : Name) → AreMarks me count names marks → IsPlace me count n → AreMarks me count (names ++ n ∷ []) (slice_set marks n.seq true)
 mark_one me count names marks n are at =
-    record { size = length-set marks n.seq true ∙ are.size; each = λ k small. by k small (same_or_other n.seq k) }
+    record { size = length-set marks n.seq true ∙ are.size; each = λ k small. by k small (cases_eq n.seq k) }
   where
     by : (k : ℕ) → k < count → (n.seq ≡ k) ⊎ (n.seq ≢ k) → slice_get (slice_set marks n.seq true) k ≡ Some (is_wanted (names ++ n ∷ []) (place_name me k))
     by k small (inl e) =
         let m = place_name me k in
         let test : name_eq n m ≡ true = ap (λ (x : Name). name_eq x m) (same_parts n m at.peer e) ∙ same_name m in
-        let wanted : is_wanted (names ++ n ∷ []) m ≡ true = wanted_append names (n ∷ []) m ∙ ap (λ (b : Bool). is_wanted names m || (b || false)) test ∙ or_true (is_wanted names m) in
+        let wanted : is_wanted (names ++ n ∷ []) m ≡ true = wanted_append names (n ∷ []) m ∙ ap (λ (b : Bool). is_wanted names m || (b || false)) test ∙ or-true (is_wanted names m) in
         let inside : n.seq < length marks = omega (arith, are.size, at.earlier) in
         ap (slice_get (slice_set marks n.seq true)) (sym e) ∙ get_set_same marks n.seq true inside ∙ ap (λ (b : Bool). Some b) (sym wanted)
     by k small (inr other) =
         let m = place_name me k in
         let test : name_eq n m ≡ false = other_name n m other in
-        let wanted : is_wanted (names ++ n ∷ []) m ≡ is_wanted names m = wanted_append names (n ∷ []) m ∙ ap (λ (b : Bool). is_wanted names m || (b || false)) test ∙ or_false (is_wanted names m) in
+        let wanted : is_wanted (names ++ n ∷ []) m ≡ is_wanted names m = wanted_append names (n ∷ []) m ∙ ap (λ (b : Bool). is_wanted names m || (b || false)) test ∙ or-false (is_wanted names m) in
         get_set_other marks n.seq k true other ∙ are.each k small ∙ ap (λ (b : Bool). Some b) (sym wanted)
 
 mark_each : (me count : ℕ) (names : List Name) (marks : List Bool) (ns : List Name) → AreMarks me count names marks → AllByRecursion (IsPlace me count) ns → AreMarks me count (names ++ ns) (marked marks ns)

@@ -1,8 +1,8 @@
 -- The numbers of lines, and that each line is right behind the earlier ones.
 use Rattle.std.proofs.Common.{◌≡◌, ℕ, suc, ◌+◌, ◌<◌, ◌≤◌, ◌==◌, Bool, true, false, cond, List, [], ◌∷◌, ◌++◌, length, map, Option, None, Some, refl, sym, ap, ◌∙◌, subst, arith, append_assoc, append-nil}
 use Rattle.std.specs.List.{AllByRecursion, find, flat_map}
-use Rattle.std.proofs.lemmas.Bool.Decides.{nat_tests}
 use Rattle.std.proofs.lemmas.List.{length-append}
+use Rattle.cd_list.proofs.Numbers.{equal_itself, other_number}
 use Rattle.cd_clause.specs.declared.Clause.{Clause}
 use Rattle.cd_names.specs.declared.names.Name.{Name}
 use Rattle.cd_steps.specs.declared.Step.{Step}
@@ -12,11 +12,11 @@ use Rattle.cd_read.specs.declared.problem.Input.{Input as ProblemInput}
 use Rattle.cd_text.specs.declared.line.Line.{Line}
 use Rattle.cd_ledger.specs.declared.Record.{Record}
 use Rattle.cd_ledger.specs.Names.{name_eq, names_in}
-use Rattle.cd_ledger.proofs.Lists.{all_append, all_weaker}
+use Rattle.cd_list.proofs.Lists.{all_append, all_weaker, all_left, all_right}
 use Rattle.cd_laws.specs.Right.{IsNamed, IsStepRight}
 use Rattle.cd_check.specs.Accepted.{clause_at, IsSourceOk, IsLineOk, AreLinesOk}
 use Rattle.cd_build.specs.Derivation.{Traced, entry_of, number_of, input_role, input_source, role_of, source_of, lines_of_steps, lines_from}
-use Rattle.cd_build.proofs.Tracing.{AreSteps, all_split}
+use Rattle.cd_build.proofs.Tracing.{AreSteps}
 
 -- ---- how many steps
 
@@ -74,12 +74,6 @@ number_small k (r ∷ rs) n = by (name_eq r.name n) (number_small (k + length r.
 
 -- ---- the clause of a line
 
-same_number : (n : ℕ) → (n == n) ≡ true
-same_number n = grind (arith, nat_tests)
-
-other_number : (m n : ℕ) → m < n → (m == n) ≡ false
-other_number m n h = grind (arith, nat_tests)
-
 at_more : (xs ys : List Line) (n : ℕ) (c : Clause) → clause_at xs n ≡ Some c → clause_at (xs ++ ys) n ≡ Some c
 at_more [] ys n c is = absurd cc
 at_more (x ∷ xs) ys n c is = by (x.number == n) is (at_more xs ys n c)
@@ -101,7 +95,7 @@ pub record IsBehind (lines : List Line) (k : ℕ) (current : Option Clause) : Ty
 
 behind_more : (lines : List Line) (k : ℕ) (current : Option Clause) (l : Line) → l.number ≡ k + 1 → IsBehind lines k current → IsBehind (lines ++ l ∷ []) (k + 1) (Some l.clause)
 behind_more lines k current l number behind =
-    let test : (l.number == k + 1) ≡ true = ap (λ (m : ℕ). m == k + 1) number ∙ same_number (k + 1) in
+    let test : (l.number == k + 1) ≡ true = ap (λ (m : ℕ). m == k + 1) number ∙ equal_itself (k + 1) in
     record {
       numbers = all_append (λ x. x.number ≤ k + 1) lines (l ∷ []) (all_weaker (λ x. x.number ≤ k) (λ x. x.number ≤ k + 1) lines (λ x h. omega arith) behind.numbers) (omega arith, tt);
       last = λ c is. at_behind lines (l ∷ []) k (k + 1) behind.numbers (omega arith) ∙ ap (λ (b : Bool). cond b (Some l.clause) None) test ∙ is;
@@ -197,14 +191,15 @@ steps_right p me before records current (s ∷ ss) cs c lines k rest ok lined be
     let d = ok.0 in
     let line : Line = record { number = k + 1; role = role_of p s; clause = d; source = source_of p records k s } in
     let others = lines_of_steps p records (k + 1) ss ok.1 in
-    let halves = all_split (IsLined me before records lines) (names_in s) (flat_map names_in ss) lined in
-    let here : IsLineOk p lines line = record { number = ap (λ (m : ℕ). m + 1) (sym size); source = step_source p me before records lines k current s d ok.2 halves.0 behind } in
+    let here_lined = all_left (IsLined me before records lines) (names_in s) (flat_map names_in ss) lined in
+    let rest_lined = all_right (IsLined me before records lines) (names_in s) (flat_map names_in ss) lined in
+    let here : IsLineOk p lines line = record { number = ap (λ (m : ℕ). m + 1) (sym size); source = step_source p me before records lines k current s d ok.2 here_lined behind } in
     let grown : length (lines ++ line ∷ []) ≡ k + 1 = omega (arith, length-append lines (line ∷ [])) in
     let after : AreLinesOk p ((lines ++ line ∷ []) ++ others) rest =
     subst (λ (l : List Line). AreLinesOk p l rest) (sym (append_assoc lines (line ∷ []) others))
     (subst (λ (l : List Clause). AreLinesOk p (lines ++ lines_of_steps p records k (s ∷ ss) l) rest) ok.4 later) in
     let more = steps_right p me before records (Some d) ss ok.1 c (lines ++ line ∷ []) (k + 1) rest ok.3
-    (all_weaker (IsLined me before records lines) (IsLined me before records (lines ++ line ∷ [])) (flat_map names_in ss) (λ n h a named. at_more lines (line ∷ []) (number_of 0 records n) a.clause (h a named)) halves.1)
+    (all_weaker (IsLined me before records lines) (IsLined me before records (lines ++ line ∷ [])) (flat_map names_in ss) (λ n h a named. at_more lines (line ∷ []) (number_of 0 records n) a.clause (h a named)) rest_lined)
     (behind_more lines k current line refl behind) grown after in
     subst (λ (l : List Clause). AreLinesOk p lines (lines_of_steps p records k (s ∷ ss) l ++ rest)) (sym ok.4) (here, more)
 

@@ -3,13 +3,15 @@ use Rattle.std.proofs.Common.{◌≡◌, ℕ, suc, ◌+◌, ◌*◌, ◌^◌, �
 use Rattle.std.specs.List.{AllByRecursion, filter, find, flat_map}
 use Rattle.std.proofs.lemmas.List.{length-append}
 use Rattle.std.proofs.lemmas.List.Elements.{filter-append}
+use Rattle.cd_laws.proofs.RightLemmas.{records_push}
+use Rattle.cd_ledger.proofs.NameLemmas.{same_name}
 use Rattle.cd_term.specs.declared.Term.{Term}
 use Rattle.cd_term.specs.Terms.{substituted, order_of, ranked}
 use Rattle.cd_clause.specs.declared.Atom.{Atom}
 use Rattle.cd_clause.specs.declared.Atom.TheVariants.{Truth, Pred, Equal}
 use Rattle.cd_clause.specs.declared.Clause.{Clause}
 use Rattle.cd_clause.specs.declared.Literal.{Literal}
-use Rattle.cd_clause.specs.Clauses.{atom_changed, literal_changed, literals_changed, clause_terms, terms_of, AreKept, IsTidied}
+use Rattle.cd_clause.specs.Clauses.{clause_terms, terms_of, AreKept, IsTidied}
 use Rattle.cd_names.specs.declared.names.Name.{Name}
 use Rattle.cd_steps.specs.declared.Step.{Step}
 use Rattle.cd_steps.specs.declared.Step.TheVariants.{Input, Resolve, Tidy}
@@ -29,13 +31,13 @@ use Rattle.cd_ledger.specs.Machine.{is_empty, no_literals}
 use Rattle.cd_ledger.specs.Names.{name_eq, names_in}
 use Rattle.cd_ledger.specs.World.{has_empty}
 use Rattle.cd_ledger.proofs.LeanLemmas.{lean_short}
-use Rattle.cd_ledger.proofs.Lists.{all_append, all_remove, all_get, length_remove}
-use Rattle.cd_ledger.proofs.TidyItems.{kept_all}
+use Rattle.cd_list.proofs.Lists.{all_append, all_remove, all_get, length_remove, all_weaker}
+use Rattle.cd_ledger.proofs.TidyItems.{kept_all, HasNoTerms, HaveNoTerms, fixed}
 use Rattle.cd_laws.specs.Right.{record_of, records_of, IsNamed, IsStepRight, AreStepsRight, IsRecordRight, AreRecordsRight, EndsRight, IsRight}
 use Rattle.cd_check.specs.Accepted.{IsLineFormed, EndsEmpty, IsRefutation}
 use Rattle.cd_build.specs.Derivation.{Traced, entry_of, IsTraced, is_wanted, choose, up_to_empty, last_names, ancestors, input_role, input_source, role_of, source_of, lines_of_steps, lines_from}
 use Rattle.cd_build.specs.Refuting.{IsPrintable, DerivationsRefute}
-use Rattle.cd_build.proofs.Choosing.{same_name, wanted_in, chosen_kept, wanted_more, closed, find_named, find_kept, all_cited, right_push}
+use Rattle.cd_build.proofs.Choosing.{wanted_in, chosen_kept, wanted_more, closed, find_named, find_kept, all_cited}
 use Rattle.cd_build.proofs.Tracing.{AreSteps, StandBefore, given_steps}
 use Rattle.cd_build.proofs.Numbering.{total, AreLinked, lines_right, number_small}
 
@@ -54,25 +56,22 @@ pub record IsSound (p : Problem) (r : Record) : Type 0 where
 sound_short : (p : Problem) (r : Record) → IsSound p r → length r.clause.literals ≤ 32768
 sound_short p r sound = lean_short r.clause sound.usable.propositional sound.usable.lean
 
--- a change of terms leaves a formed clause alone
-fixed_atom : (symbols : List Symbol) (h : Term → Term) (a : Atom) → AtomFormed symbols a → atom_changed h a ≡ a
-fixed_atom symbols h Truth is = absurd is
-fixed_atom symbols h (Pred n args) is = ap (λ (ts : List Term). Pred n (map h ts)) is.4 ∙ ap (Pred n) (sym is.4)
-fixed_atom symbols h (Equal s t) is = absurd is
+-- a formed atom has no terms
+has_no_terms : (symbols : List Symbol) (a : Atom) → AtomFormed symbols a → HasNoTerms a
+has_no_terms symbols Truth is = absurd is
+has_no_terms symbols (Pred n args) is = is.4
+has_no_terms symbols (Equal s t) is = absurd is
 
-fixed : (symbols : List Symbol) (h : Term → Term) (ls : List Literal) → AllByRecursion (λ l. AtomFormed symbols l.atom) ls → literals_changed h ls ≡ ls
-fixed symbols h [] all = refl
-fixed symbols h (l ∷ ls) all =
-    let here : literal_changed h l ≡ l = ap (λ (a : Atom). record { positive = l.positive; atom = a }) (fixed_atom symbols h l.atom all.0) in
-    ap (λ (m : Literal). m ∷ literals_changed h ls) here ∙ ap (λ (ms : List Literal). l ∷ ms) (fixed symbols h ls all.1)
+have_no_terms : (symbols : List Symbol) (ls : List Literal) → AllByRecursion (λ l. AtomFormed symbols l.atom) ls → HaveNoTerms ls
+have_no_terms symbols ls all = all_weaker (λ l. AtomFormed symbols l.atom) (λ l. HasNoTerms l.atom) ls (λ l. has_no_terms symbols l.atom) all
 
-no_terms : (symbols : List Symbol) (ls : List Literal) → AllByRecursion (λ l. AtomFormed symbols l.atom) ls → clause_terms ls ≡ []
-no_terms symbols [] all = refl
-no_terms symbols (l ∷ ls) all = ap (λ (ts : List Term). ts ++ clause_terms ls) (by l.atom all.0) ∙ no_terms symbols ls all.1
+no_terms : (ls : List Literal) → HaveNoTerms ls → clause_terms ls ≡ []
+no_terms [] none = refl
+no_terms (l ∷ ls) none = ap (λ (ts : List Term). ts ++ clause_terms ls) (by l.atom none.0) ∙ no_terms ls none.1
   where
-    by : (a : Atom) → AtomFormed symbols a → terms_of a ≡ []
+    by : (a : Atom) → HasNoTerms a → terms_of a ≡ []
     by Truth is = absurd is
-    by (Pred n args) is = is.4
+    by (Pred n args) is = is
     by (Equal s t) is = absurd is
 
 kept_few : (earlier ls kept : List Literal) → AreKept earlier ls kept → length kept ≤ length ls
@@ -88,7 +87,7 @@ tidied_fit p c d t fit =
     let P = λ (l : Literal). AtomFormed p.symbols l.atom in
     let kept = t.0 in
     let all : AllByRecursion P kept = kept_all P [] c.literals kept t.1 fit.formed in
-    let same : d.literals ≡ kept = t.2 ∙ fixed p.symbols (substituted (ranked (order_of (clause_terms kept)))) kept all in
+    let same : d.literals ≡ kept = t.2 ∙ fixed (substituted (ranked (order_of (clause_terms kept)))) kept (have_no_terms p.symbols kept all) in
     record { formed = subst (AllByRecursion P) (sym same) all; short = omega (arith, ap length same, kept_few [] c.literals kept t.1, fit.short) }
 
 -- a right step over sound records gives such a clause, behind one
@@ -148,7 +147,7 @@ none_there [] none = refl
 none_there (t ∷ ts) none = absurd (omega arith)
 
 clause_fits : (p : Problem) (c : Clause) → IsFit p c → ClauseFits c
-clause_fits p c fit = subst TermsFit (sym (no_terms p.symbols c.literals fit.formed)) tt
+clause_fits p c fit = subst TermsFit (sym (no_terms c.literals (have_no_terms p.symbols c.literals fit.formed))) tt
 
 step_line : (p : Problem) (me : ℕ) (before records : List Record) (current : Option Clause) (k : ℕ) (s : Step) (c : Clause) → IsStepRight p me before current s c → IsFit p c → k < 2 ^ 34 → total records < 2 ^ 34
     → IsGoodLine p (record { number = k + 1; role = role_of p s; clause = c; source = source_of p records k s })
@@ -188,14 +187,6 @@ good_lines p me records front k (t ∷ ts) inputs linked few small =
     all_append (IsGoodLine p) (lines_of_steps p records k t.entry.steps t.clauses) (lines_from p records next ts)
     (steps_lines p me here.right.before records None k t.entry.steps t.clauses t.entry.clause inputs here.sound (λ x none. absurd cc) here.right.steps (omega arith) small)
     (good_lines p me records (front ++ t.entry ∷ []) next ts inputs linked.1 (omega arith) small)
-
-first_halves : {A : Type 0} (P Q : A → Type 0) (xs : List A) → AllByRecursion (λ x. P x × Q x) xs → AllByRecursion P xs
-first_halves P Q [] all = tt
-first_halves P Q (x ∷ xs) all = (all.0.0, first_halves P Q xs all.1)
-
-second_halves : {A : Type 0} (P Q : A → Type 0) (xs : List A) → AllByRecursion (λ x. P x × Q x) xs → AllByRecursion Q xs
-second_halves P Q [] all = tt
-second_halves P Q (x ∷ xs) all = (all.0.1, second_halves P Q xs all.1)
 
 -- ---- the last record
 
@@ -359,7 +350,7 @@ linked p me known goal all before [] (t ∷ ts) whole is right right_rest sound 
 linked p me known goal all before (r ∷ rest) ts whole is right right_rest sound sound_rest entries given =
     let more : all ≡ (before ++ r ∷ []) ++ rest = is ∙ sym (append_assoc before (r ∷ []) rest) in
     linked_by (wanted_in goal all r) p me known goal all before rest r ts refl whole is right right_rest.0 sound entries given
-    (λ us same traced. linked p me known goal all (before ++ r ∷ []) rest us whole more (right_push p me [] before r right right_rest.0) right_rest.1 (all_append (IsSound p) before (r ∷ []) sound (sound_rest.0, tt)) sound_rest.1 same traced)
+    (λ us same traced. linked p me known goal all (before ++ r ∷ []) rest us whole more (records_push p me [] before r right right_rest.0) right_rest.1 (all_append (IsSound p) before (r ∷ []) sound (sound_rest.0, tt)) sound_rest.1 same traced)
 
 -- ---- few steps
 
@@ -400,9 +391,9 @@ derivations_refute p s lines h is =
     ap (filter keeps) w.split ∙ filter-append keeps w.front (w.last ∷ []) ∙ ap (λ (b : Bool). filter keeps w.front ++ cond b (w.last ∷ []) []) last_kept in
     let lines_are : lines ≡ lines_from p kept 0 ts = is.lines_are ∙ ap (λ (l : List Record). lines_from p l 0 ts) w.chosen in
     let refutes : IsRefutation p (lines_from p kept 0 ts) = record {
-      formed = first_halves (IsLineFormed p.symbols) LineFits (lines_from p kept 0 ts) good;
+      formed = all_weaker (IsGoodLine p) (λ l. IsLineFormed p.symbols l) (lines_from p kept 0 ts) (λ l h. h.0) good;
       right = lines_right p s.me (IsSound p) kept [] ts (sym entries) tt link;
       end = lines_end p s.me (IsSound p) kept [] 0 ts (filter keeps w.front) w.last link (entries ∙ ends_in) w.empty;
     } in
-    let printable : IsPrintable p (lines_from p kept 0 ts) = record { refutes = refutes; fit = second_halves (IsLineFormed p.symbols) LineFits (lines_from p kept 0 ts) good } in
+    let printable : IsPrintable p (lines_from p kept 0 ts) = record { refutes = refutes; fit = all_weaker (IsGoodLine p) LineFits (lines_from p kept 0 ts) (λ l h. h.1) good } in
     subst (IsPrintable p) (sym lines_are) printable

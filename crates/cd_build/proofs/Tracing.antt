@@ -16,7 +16,7 @@ use Rattle.cd_text.specs.declared.line.LineSource.TheVariants.{Inference}
 use Rattle.cd_ledger.specs.declared.Known.{Known}
 use Rattle.cd_ledger.specs.declared.Record.{Record}
 use Rattle.cd_ledger.specs.Names.{name_eq, names_in, look}
-use Rattle.cd_ledger.proofs.Lists.{get_left}
+use Rattle.cd_list.proofs.Lists.{get_left, find_left, all_left, all_right}
 use Rattle.cd_laws.specs.Accounts.{IsReplayed}
 use Rattle.cd_laws.specs.Right.{record_of, IsNamed, IsStepRight, AreStepsRight, AreRecordsRight}
 use Rattle.cd_build.specs.Derivation.{AreGiven, number_of, role_of, source_of, lines_of_steps}
@@ -42,14 +42,6 @@ record IsLooked (known : List Known) (n : Name) (a : Record) : Type 0 where
   look_is : look known n ≡ Some found
   entry : found.entry ≡ a
 
-find_more : {A : Type 0} (q : A → Bool) (xs ys : List A) (a : A) → find q xs ≡ Some a → find q (xs ++ ys) ≡ Some a
-find_more q [] ys a found = absurd cc
-find_more {A} q (x ∷ xs) ys a found = by (q x) found (find_more q xs ys a)
-  where
-    by : (b : Bool) → cond b (Some x) (find q xs) ≡ Some a → (find q xs ≡ Some a → find q (xs ++ ys) ≡ Some a) → cond b (Some x) (find q (xs ++ ys)) ≡ Some a
-    by true here later = here
-    by false here later = later here
-
 looked : (n : Name) (known : List Known) (a : Record) → find (λ r. name_eq r.name n) (map record_of known) ≡ Some a → IsLooked known n a
 looked n [] a found = absurd cc
 looked n (k ∷ ks) a found = by (name_eq k.entry.name n) refl found (looked n ks a)
@@ -65,7 +57,7 @@ named_looked : (p : Problem) (me : ℕ) (known : List Known) (before : List Reco
 named_looked p me known before n a stand named =
     let zero_plus : n.seq ≡ 0 + n.seq = omega arith in
     let found = find_named p me [] before n n.seq a stand.right named.peer zero_plus named.there in
-    looked n known a (ap (find (λ r. name_eq r.name n)) stand.split ∙ find_more (λ r. name_eq r.name n) before stand.rest a found.0)
+    looked n known a (ap (find (λ r. name_eq r.name n)) stand.split ∙ find_left (λ r. name_eq r.name n) before stand.rest a found.0)
 
 -- ---- a right step is right with what is known, and gives its clause from the places
 
@@ -143,10 +135,6 @@ steps_given p me known before current (s ∷ ss) cs c stand ok =
 abbrev pub IsNumbered : ℕ → List Record → List Record → List ℕ → Name → Type 0
 IsNumbered me before records numbers n = (a : Record) → IsNamed me before n a → get_or numbers n.seq 0 ≡ number_of 0 records n
 
-pub all_split : {A : Type 0} (P : A → Type 0) (xs ys : List A) → AllByRecursion P (xs ++ ys) → AllByRecursion P xs × AllByRecursion P ys
-all_split P [] ys all = (tt, all)
-all_split P (x ∷ xs) ys all = let others = all_split P xs ys all.1 in ((all.0, others.0), others.1)
-
 same_source : (p : Problem) (me : ℕ) (before records : List Record) (numbers : List ℕ) (k : ℕ) (current : Option Clause) (s : Step) (c : Clause) → IsStepRight p me before current s c
     → AllByRecursion (IsNumbered me before records numbers) (names_in s) → source_by p numbers k s ≡ source_of p records k s
 same_source p me before records numbers k current (Input index) c ok all = refl
@@ -167,15 +155,16 @@ added_steps p me known before records numbers current (s ∷ ss) c lines new sta
     let k = length lines in
     let d = ok.0 in
     let same : added.0 ≡ d = steps_give_one s current (first_premise p known s) (second_premise known s) added.0 d added.1 (gives p me known before current s d stand ok.1) in
-    let halves = all_split (IsNumbered me before records numbers) (names_in s) (flat_map names_in ss) all in
+    let here_numbered = all_left (IsNumbered me before records numbers) (names_in s) (flat_map names_in ss) all in
+    let rest_numbered = all_right (IsNumbered me before records numbers) (names_in s) (flat_map names_in ss) all in
     let line : Line = record { number = k + 1; role = role_of p s; clause = d; source = source_of p records k s } in
     let is_line : line_by p numbers k added.0 s ≡ line =
     ap (λ (e : Clause). line_by p numbers k e s) same
-    ∙ ap (λ (source : LineSource). record { number = k + 1; role = role_of p s; clause = d; source = source }) (same_source p me before records numbers k current s d ok.1 halves.0) in
+    ∙ ap (λ (source : LineSource). record { number = k + 1; role = role_of p s; clause = d; source = source }) (same_source p me before records numbers k current s d ok.1 here_numbered) in
     let more : AreAdded p known numbers (Some d) ss (lines ++ line ∷ []) new =
     subst (λ (l : Line). AreAdded p known numbers (Some d) ss (lines ++ l ∷ []) new) is_line
     (subst (λ (e : Clause). AreAdded p known numbers (Some e) ss (lines ++ line_by p numbers k added.0 s ∷ []) new) same added.2) in
-    let others = added_steps p me known before records numbers (Some d) ss c (lines ++ line ∷ []) new stand ok.2 halves.1 more in
+    let others = added_steps p me known before records numbers (Some d) ss c (lines ++ line ∷ []) new stand ok.2 rest_numbered more in
     record {
       clauses = d ∷ others.clauses;
       steps = (d, others.clauses, ok.1, others.steps, refl);

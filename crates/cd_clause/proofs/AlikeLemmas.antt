@@ -1,9 +1,10 @@
 -- What is left of a list of literals beside another list, one literal at a time.
-use Rattle.std.proofs.Common.{◌≡◌, ℕ, ◌+◌, ◌<◌, ◌≤◌, Bool, true, Option, None, Some, option_map, ◌⊎◌, inl, inr, List, [], ◌∷◌, ◌++◌, length, map, get_or, take, drop, nat_eq, nat_lt, ap, subst, refl, sym, ◌∙◌, arith}
+use Rattle.std.proofs.Common.{◌≡◌, ℕ, ◌+◌, ◌<◌, ◌≤◌, Bool, true, Option, None, Some, option_map, inl, inr, List, [], ◌∷◌, ◌++◌, length, map, get_or, take, drop, nat_eq, nat_lt, ap, subst, refl, sym, ◌∙◌, arith}
 use Rattle.std.specs.List.{flat_map}
 use Rattle.std.proofs.lemmas.List.{drop_all, length-drop, append-nil}
 use Rattle.std.proofs.lemmas.Option.{slice_get-get_or, slice_get_within}
 use Rattle.std.proofs.lemmas.List.Concat.{flat_map-append}
+use Rattle.cd_list.proofs.Numbers.{below_next}
 use Rattle.cd_term.specs.declared.Term.{Term}
 use Rattle.cd_term.specs.Terms.{variables_of, renamed_by, marked, first_from}
 use Rattle.cd_term.proofs.MarkLemmas.{none_beside, found_beside}
@@ -313,14 +314,11 @@ left_out_is ls i l lt at out =
 abbrev pub IsClearBetween : ℕ → ℕ → List Literal → Type 0
 IsClearBetween clear i ls = (k : ℕ) → clear ≤ k → k < i → ¬ IsLeftOut ls k
 
-below_or_here : (k i : ℕ) → k < i + 1 → (k < i) ⊎ (i ≡ k)
-below_or_here k i lt = grind (arith, lt)
-
 pub clear_more : (clear i : ℕ) (ls us : List Literal) (l : Literal) → i < length ls → l ≡ get_or ls i l → us ≡ take i ls → ¬ IsSuperfluous us l →
     IsClearBetween clear i ls → IsClearBetween clear (i + 1) ls
-clear_more clear i ls us l lt at is new clears = λ k le below. elim (below_or_here k i below) [
+clear_more clear i ls us l lt at is new clears = λ k le below. elim (below_next k i below) [
   | inl old ↦ clears k le old
-  | inr here ↦ (λ out. new_as us (take i ls) l is new (left_out_is ls i l lt at (subst (IsLeftOut ls) (sym here) out)))
+  | inr here ↦ (λ out. new_as us (take i ls) l is new (left_out_is ls i l lt at (subst (IsLeftOut ls) here out)))
 ]
 
 pub clear_all : (clear i : ℕ) (ls : List Literal) → length ls ≤ i → IsClearBetween clear i ls → IsClearFrom clear ls

@@ -1,7 +1,8 @@
 -- Truth of instances, of tautologies and of tidied clauses.
-use Rattle.std.proofs.Common.{◌≡◌, ℕ, zero, suc, ◌<◌, ◌≤◌, Bool, true, false, ◌⊎◌, inl, inr, List, [], ◌∷◌, length, map, All, Option, Some, None, slice_get, slice_index, ap, subst, refl, sym, ◌∙◌, arith, if◌then◌else◌}
+use Rattle.std.proofs.Common.{◌≡◌, ℕ, zero, suc, ◌<◌, Bool, true, false, inl, inr, List, [], ◌∷◌, length, map, All, Option, Some, None, slice_get, slice_index, ap, subst, refl, sym, ◌∙◌, arith, if◌then◌else◌}
 use Rattle.std.specs.List.{list_any, AllByRecursion}
 use Rattle.std.proofs.lemmas.List.{get_or_past}
+use Rattle.std.proofs.lemmas.Bool.{cases_lt}
 use Rattle.cd_term.specs.declared.Term.{Term}
 use Rattle.cd_term.specs.declared.Term.TheVariants.{Var, App}
 use Rattle.cd_term.specs.Terms.{substituted}
@@ -65,13 +66,10 @@ table_at size (x ∷ tables) (suc f) t all e = table_at size tables f t all.1 e
 -- a function's values are elements
 below_at : (size : ℕ) (b : Bool) (values : List ℕ) (k : ℕ) → 0 < size → All (λ v. v < (if b then size else 2)) values →
     slice_index (if b then values else []) k < size
-below_at size true values k some all = elim (within k) [
+below_at size true values k some all = elim (cases_lt k (length values)) [
   | inl lt ↦ all k 0 lt
   | inr le ↦ omega (arith, get_or_past values k 0 le)
 ]
-  where
-    within : (k : ℕ) → (k < length values) ⊎ (length values ≤ k)
-    within k = grind arith
 below_at size false values k some all = omega (arith, get_or_past {X = ℕ} [] k 0)
 
 function_below : (i : Interp) → IsInterp i → (o : Option Table) (f k : ℕ) → slice_get i.tables f ≡ o → slice_index (function_values o) k < i.size

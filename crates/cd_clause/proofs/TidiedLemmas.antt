@@ -2,7 +2,8 @@
 use Rattle.std.proofs.Common.{◌≡◌, ℕ, ◌+◌, ◌<◌, ◌≤◌, max, Bool, true, false, Option, None, Some, option_map, ◌⊎◌, inl, inr, List, [], ◌∷◌, ◌++◌, length, map, get_or, ap, subst, refl, sym, ◌∙◌, arith}
 use Rattle.std.specs.List.{flat_map}
 use Rattle.std.proofs.lemmas.List.{map-append}
-use Rattle.std.proofs.lemmas.Bool.{false≢true}
+use Rattle.std.proofs.lemmas.Bool.{false≢true, cases_lt}
+use Rattle.cd_list.proofs.Numbers.{below_next}
 use Rattle.cd_term.specs.declared.Term.{Term}
 use Rattle.cd_term.specs.Terms.{greatest, bound_of, variables_of, substituted, IsNumberedFrom, firsts_after, order_of, ranked, renumbered, renamed_by, marked, first_from}
 use Rattle.cd_term.proofs.VariableLaws.{variables_renamed, renumbered-numbered, renumbered-bound, renumbered-places}
@@ -151,9 +152,6 @@ IsPassed ls ms n k = IsBeside n ls ms (Some k) × AreMarkedAlike k n [] ls ms
 abbrev pub ArePassed : List Literal → List Literal → ℕ → Type 0
 ArePassed ls ms count = (n : ℕ) → n < count → (k : ℕ) × IsPassed ls ms n k
 
-below_or_past : (n count : ℕ) → (n < count) ⊎ (count ≤ n)
-below_or_past n count = grind arith
-
 pick : (ls ms : List Literal) (count : ℕ) → ArePassed ls ms count → (n : ℕ) → (n < count) ⊎ (count ≤ n) → ℕ
 pick ls ms count passed n (inl lt) = (passed n lt).0
 pick ls ms count passed n (inr le) = 0
@@ -182,8 +180,8 @@ tidied_by c d count p is some passed =
 
 pub tidied_passed : (c d : Clause) (count : ℕ) → count ≡ variable_bound_of d → 0 < count → ArePassed c.literals d.literals count → IsTidied c d
 tidied_passed c d count is some passed = tidied_by c d count
-    (λ n. pick c.literals d.literals count passed n (below_or_past n count)) is some
-    (λ n lt. picked c.literals d.literals count passed n (below_or_past n count) lt)
+    (λ n. pick c.literals d.literals count passed n (cases_lt n count)) is some
+    (λ n lt. picked c.literals d.literals count passed n (cases_lt n count) lt)
 
 -- a tidy form passes each comparison
 abbrev pub back : List Literal → ℕ → ℕ
@@ -270,16 +268,13 @@ answer_differs c d ls ms count n k left right is lt found both = (
       (tidied_alike c d n k (omega (arith, lt, is)) (beside_as n (Some k) ls ms c.literals d.literals left right found) t)))),
 )
 
-below_or_last : (m n : ℕ) → m < n + 1 → (m < n) ⊎ (n ≡ m)
-below_or_last m n lt = grind (arith, lt)
-
 pub passed_none : (ls ms : List Literal) → ArePassed ls ms 0
 passed_none ls ms = λ n lt. absurd (omega (arith, lt))
 
 pub passed_more : (ls ms : List Literal) (n k : ℕ) → ArePassed ls ms n → IsBeside n ls ms (Some k) → AreMarkedAlike k n [] ls ms → ArePassed ls ms (n + 1)
-passed_more ls ms n k passed found alike = λ m lt. elim (below_or_last m n lt) [
+passed_more ls ms n k passed found alike = λ m lt. elim (below_next m n lt) [
   | inl old ↦ passed m old
-  | inr last ↦ (k, subst (λ x. IsPassed ls ms x k) last (found, alike))
+  | inr last ↦ (k, subst (λ x. IsPassed ls ms x k) (sym last) (found, alike))
 ]
 
 pub answer_passed : (c d : Clause) (ls ms : List Literal) (count n : ℕ) → ls ≡ c.literals → ms ≡ d.literals → count ≡ variable_bound_of d → (count ≡ 0 → ⊥) →

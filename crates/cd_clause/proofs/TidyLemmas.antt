@@ -3,6 +3,9 @@ use Rattle.std.proofs.Common.{◌≡◌, ℕ, Bool, true, false, not, ◌||◌, 
 use Rattle.std.specs.List.{list_any}
 use Rattle.std.proofs.lemmas.List.{map-append}
 use Rattle.std.proofs.lemmas.List.Folds.{list_any-append}
+use Rattle.std.proofs.lemmas.Bool.{or_left, or_right}
+use Rattle.std.proofs.Math.Bool.{or-false}
+use Rattle.cd_list.proofs.Numbers.{equal_itself}
 use Rattle.cd_term.specs.declared.Term.{Term}
 use Rattle.cd_term.specs.Terms.{substituted, order_of, ranked, unranked}
 use Rattle.cd_term.proofs.VariableLaws.{renumbered-back}
@@ -14,16 +17,13 @@ use Rattle.cd_clause.specs.Clauses.{Among, terms_of, clause_terms, atom_changed,
 use Rattle.cd_clause.specs.Truth.{Interp, IsInterp, Point, value, atom_true, literal_true, Holds}
 use Rattle.cd_clause.proofs.SoundnessLemmas.{instance_holds}
 
-nat_eq_self : (n : ℕ) → nat_eq n n ≡ true
-nat_eq_self n = grind arith
-
 nat_eq_swap : (m n : ℕ) → nat_eq m n ≡ nat_eq n m
 nat_eq_swap m n = grind arith
 
 trivial_atom : (i : Interp) (point : Point) (a : Atom) → IsTrivialAtom a → atom_true i point a ≡ true
 trivial_atom i point Truth t = refl
 trivial_atom i point (Pred p args) t = absurd t
-trivial_atom i point (Equal s u) t = ap (λ w. nat_eq (value i point s) (value i point w)) (sym t) ∙ nat_eq_self (value i point s)
+trivial_atom i point (Equal s u) t = ap (λ w. nat_eq (value i point s) (value i point w)) (sym t) ∙ equal_itself (value i point s)
 
 exchanged_atom : (i : Interp) (point : Point) (a : Atom) → atom_true i point (exchanged a) ≡ atom_true i point a
 exchanged_atom i point Truth = refl
@@ -48,21 +48,9 @@ trivial_literal i point l t = ap (λ b. signed b (atom_true i point l.atom)) t.0
 absurd_literal : (i : Interp) (point : Point) (l : Literal) → IsAbsurd l → literal_true i point l ≡ false
 absurd_literal i point l t = ap (λ b. signed b (atom_true i point l.atom)) t.0 ∙ ap not (trivial_atom i point l.atom t.1)
 
-or_left : (a b : Bool) → a ≡ true → (a || b) ≡ true
-or_left true b e = refl
-or_left false b e = absurd (cc)
-
-or_right : (a b : Bool) → b ≡ true → (a || b) ≡ true
-or_right true b e = refl
-or_right false b e = e
-
 or_assoc : (a b c : Bool) → (a || (b || c)) ≡ ((a || b) || c)
 or_assoc true b c = refl
 or_assoc false b c = refl
-
-or_nothing : (a : Bool) → (a || false) ≡ a
-or_nothing true = refl
-or_nothing false = refl
 
 -- tautologies
 any_trivial : (i : Interp) (point : Point) (ls : List Literal) → Among IsTrivial ls → list_any (literal_true i point) ls ≡ true
@@ -122,14 +110,14 @@ adds_nothing false false h = refl
 superfluous_adds_nothing : (i : Interp) (point : Point) (earlier : List Literal) (l : Literal) → IsSuperfluous earlier l →
     (list_any (literal_true i point) earlier || literal_true i point l) ≡ list_any (literal_true i point) earlier
 superfluous_adds_nothing i point earlier l (inl never) =
-    ap (λ b. list_any (literal_true i point) earlier || b) (absurd_literal i point l never) ∙ or_nothing (list_any (literal_true i point) earlier)
+    ap (λ b. list_any (literal_true i point) earlier || b) (absurd_literal i point l never) ∙ or-false (list_any (literal_true i point) earlier)
 superfluous_adds_nothing i point earlier l (inr same) =
     adds_nothing (list_any (literal_true i point) earlier) (literal_true i point l) (any_same i point l earlier same)
 
 one_more : (i : Interp) (point : Point) (earlier : List Literal) (l : Literal) →
     list_any (literal_true i point) (earlier ++ l ∷ []) ≡ (list_any (literal_true i point) earlier || literal_true i point l)
 one_more i point earlier l = list_any-append (literal_true i point) earlier (l ∷ [])
-    ∙ ap (λ b. list_any (literal_true i point) earlier || b) (or_nothing (literal_true i point l))
+    ∙ ap (λ b. list_any (literal_true i point) earlier || b) (or-false (literal_true i point l))
 
 abbrev pub SameTruth : Interp → Point → List Literal → List Literal → List Literal → Type 0
 SameTruth i point earlier ls kept =

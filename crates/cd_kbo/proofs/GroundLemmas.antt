@@ -17,7 +17,7 @@ use Rattle.cd_kbo.specs.declared.order.Order.{Order}
 use Rattle.cd_kbo.specs.Orders.{weight_at, rank_at}
 use Rattle.cd_kbo.specs.Kbo.{weight_of, ground_key, ground_compare}
 use Rattle.cd_kbo.proofs.KboEquations.{weight_of-Var, weight_of-App, ground_key-Var, ground_key-App}
-use Rattle.cd_kbo.proofs.Orderings.{then_under, then_less, both_equal, nat_cmp-Equal, nat_cmp-Greater, is_equal, is_greater, after_same, Splits, splits_none, splits_cons, splits_append, splits_moved}
+use Rattle.cd_kbo.proofs.Orderings.{then_under, then_less, both_equal, nat_cmp-Equal, nat_cmp-Greater, is_equal, is_greater, after_same, Splits, splits_none, splits_cons, splits_append, splits_moved, less_not_greater}
 
 -- a term is a variable or an application
 pub cases_of : (P : Term → Type 0) → ((n : ℕ) → P (Var n)) → ((f : ℕ) (ts : List Term) → P (App f ts)) → (t : Term) → P t
@@ -108,13 +108,10 @@ ground_by_weight o s t h =
     (λ i. slice_cmp nat_cmp ((key_first o s).1 i) ((key_first o t).1 i)) ∙
     ap (λ (c : Ordering). ordering_then c (slice_cmp nat_cmp (key_first o s).0 (key_first o t).0)) (is_greater (weight_of o s) (weight_of o t) h)
 
-not_both : Less ≢ Greater
-not_both e = cc
-
 -- the smaller term weighs no more
 pub ground_weights : (o : Order) (s t : Term) → ground_compare o s t ≡ Less → weight_of o s ≤ weight_of o t
 ground_weights o s t e =
-    let too_heavy : weight_of o t < weight_of o s → ⊥ = λ h. not_both (sym e ∙ ground_by_weight o s t h) in
+    let too_heavy : weight_of o t < weight_of o s → ⊥ = λ h. less_not_greater (sym e ∙ ground_by_weight o s t h) in
     omega (arith, too_heavy)
 
 -- each variable read as `bot`, which is the variable 0

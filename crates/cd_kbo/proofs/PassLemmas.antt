@@ -13,7 +13,7 @@ use Rattle.cd_kbo.specs.declared.order.Order.{Order}
 use Rattle.cd_kbo.specs.Orders.{weight_at, rank_at}
 use Rattle.cd_kbo.specs.Kbo.{weight_of, ground_compare}
 use Rattle.cd_kbo.proofs.KboEquations.{weight_of-App}
-use Rattle.cd_kbo.proofs.Orderings.{then_assoc, then_ne, not_ne, both_equal, nat_cmp-Equal}
+use Rattle.cd_kbo.proofs.Orderings.{then_assoc, then_ne, not_ne, both_equal, nat_cmp-Equal, then_equal}
 use Rattle.cd_kbo.proofs.GroundLemmas.{ground-App-App}
 use Rattle.cd_kbo.proofs.Arguments.{weight_known}
 
@@ -31,11 +31,6 @@ split_cmp R (a ∷ p) [] xs ys e = absurd (omega arith)
 split_cmp R (a ∷ p) (b ∷ q) xs ys e =
     let many : length p ≡ length q = omega arith in
     ap (ordering_then (R a b)) (split_cmp R p q xs ys many) ∙ sym (then_assoc (R a b) (slice_cmp R p q) (slice_cmp R xs ys))
-
-then_equal : (c : Ordering) → ordering_then c Equal ≡ c
-then_equal Less = refl
-then_equal Equal = refl
-then_equal Greater = refl
 
 -- one pair more
 grown : (o : Order) (xs ys : List Term) (i : ℕ) (x y : Term) (a : Ordering) → i < length xs → i < length ys → x ≡ get_or xs i x → y ≡ get_or ys i y →

@@ -6,7 +6,7 @@ use Rattle.std.specs.Ordering.{nat_cmp, ordering_then, is_ne, is_lt}
 use Rattle.std.specs.declared.cmp.Ordering.{Ordering}
 use Rattle.std.specs.declared.cmp.Ordering.TheVariants.{Less, Equal}
 use Rattle.std.specs.declared.cmp.Ordering.TheVariants as answer
-use Rattle.std.proofs.lemmas.Bool.{cases_lt}
+use Rattle.std.proofs.lemmas.Bool.{cases_lt, true≢false}
 use Rattle.std.proofs.lemmas.Cmp.{nat_list_cmp_total, tied_itself}
 use Rattle.std.proofs.lemmas.List.{take_all, take_more}
 use Rattle.std.proofs.Math.Seq.{split_at}
@@ -21,9 +21,6 @@ use Rattle.cd_kbo.proofs.Orderings.{not_ne, both_equal, nat_cmp-Equal}
 use Rattle.cd_kbo.proofs.GroundLemmas.{ground_heads}
 use Rattle.cd_kbo.proofs.KboLemmas.{heads_back, heads_forth, above, irreflexive}
 
-true_not_false : true ≢ false
-true_not_false e = cc
-
 pub covers_of : (V : ℕ → Type 0) (o : Order) (s t : Term) → GreaterOn V o s t → Covers V s t
 covers_of V o s t (by_weight _ _ c w) = c
 covers_of V o s t (by_head _ _ f g ss ts c w p q h) = c
@@ -36,8 +33,8 @@ weights_of V o s t (by_argument _ _ a b c w d g) = omega arith
 
 lt_less : (r : Ordering) → IsTrue (is_lt r) → r ≡ Less
 lt_less Less h = refl
-lt_less Equal h = absurd (true_not_false (sym h))
-lt_less answer.Greater h = absurd (true_not_false (sym h))
+lt_less Equal h = absurd (true≢false (sym h))
+lt_less answer.Greater h = absurd (true≢false (sym h))
 
 less_lt : (r : Ordering) → r ≡ Less → is_lt r ≡ true
 less_lt r e = ap is_lt e
@@ -157,7 +154,7 @@ pub compared_none : (V : ℕ → Type 0) (o : Order) (xs ys : List Term) → Com
 compared_none V o xs ys = record {
   equal = λ e. refl;
   level = λ e. refl;
-  differ = λ e. absurd (true_not_false e);
+  differ = λ e. absurd (true≢false e);
 }
 
 -- one pair more, where all were the same
@@ -179,7 +176,7 @@ compared_more V o xs ys i x y same up lt many at_x at_y so_far alike decides =
         at_x = at_x;
         at_y = at_y;
         before = so_far;
-        unlike = λ k. true_not_false (sym (alike.1 k) ∙ e);
+        unlike = λ k. true≢false (sym (alike.1 k) ∙ e);
         decides = decides;
       };
     }
@@ -203,8 +200,8 @@ compared_seen V o xs ys i x y u v same up lt many at_x at_y so_far p q alike dec
 pub compared_past : (V : ℕ → Type 0) (o : Order) (xs ys : List Term) (i : ℕ) (same up : Bool) → same ≡ false →
     Compared V o xs ys i same up → Compared V o xs ys (i + 1) same up
 compared_past V o xs ys i same up past c = record {
-  equal = λ e. absurd (true_not_false (sym e ∙ past));
-  level = λ e. absurd (true_not_false (sym e ∙ past));
+  equal = λ e. absurd (true≢false (sym e ∙ past));
+  level = λ e. absurd (true≢false (sym e ∙ past));
   differ = c.differ;
 }
 
@@ -239,7 +236,7 @@ pub arguments_same : (V : ℕ → Type 0) (o : Order) (f g : ℕ) (xs ys : List 
 arguments_same V o f g xs ys i true up symbol many past c =
     (λ h. λ j. App (symbol j) (all_same xs ys i many past (c.equal refl) j), λ e. refl)
 arguments_same V o f g xs ys i false up symbol many past c = (
-  λ h. absurd (true_not_false (sym h)),
+  λ h. absurd (true≢false (sym h)),
   λ e. absurd (difference_apart (App f xs) (App g ys) (c.differ refl).x (c.differ refl).y
       (difference_of V o f g xs ys up symbol many (c.differ refl)) e),
 )
@@ -248,7 +245,7 @@ pub arguments_decide : (V : ℕ → Type 0) (o : Order) (f g : ℕ) (xs ys : Lis
     length xs ≤ i → Compared V o xs ys i same up → Covers V (App f xs) (App g ys) → weight_of o (App g ys) ≡ weight_of o (App f xs) →
     IsTrue up ↔ GreaterOn V o (App f xs) (App g ys)
 arguments_decide V o f g xs ys i true up symbol many past c covers weights = (
-  λ h. absurd (true_not_false (sym h ∙ c.level refl)),
+  λ h. absurd (true≢false (sym h ∙ c.level refl)),
   λ k. absurd (irreflexive V o (App f xs) (App g ys) k (λ j. App (symbol j) (all_same xs ys i many past (c.equal refl) j))),
 )
 arguments_decide V o f g xs ys i false up symbol many past c covers weights =
@@ -263,7 +260,7 @@ variable_apart t n f ts is app =
 -- a variable against another term is greater by its weight, or not at all
 pub variables_decide : (V : ℕ → Type 0) (o : Order) (s t : Term) →
     ((f g : ℕ) (ss ts : List Term) → s ≡ App f ss → t ≡ App g ts → ⊥) → weight_of o t ≡ weight_of o s → IsTrue false ↔ GreaterOn V o s t
-variables_decide V o s t apart w = (λ h. absurd (true_not_false (sym h)), λ k. absurd (none k))
+variables_decide V o s t apart w = (λ h. absurd (true≢false (sym h)), λ k. absurd (none k))
   where
     none : GreaterOn V o s t → ⊥
     none (by_weight _ _ c lt) = absurd (omega arith)

@@ -7,7 +7,7 @@ use Rattle.std.specs.declared.cmp.Ordering.{Ordering}
 use Rattle.std.specs.declared.cmp.Ordering.TheVariants.{Less, Equal, Greater}
 use Rattle.std.proofs.lemmas.Cmp.{tied_itself, tied_back, alike_right}
 use Rattle.std.proofs.lemmas.List.Sums.{sum_by-append}
-use Rattle.cd_kbo.proofs.Orderings.{is_less}
+use Rattle.cd_kbo.proofs.Orderings.{is_less, less_not_greater}
 use Rattle.cd_kbo.proofs.GroundLemmas.{ground_total}
 use Rattle.cd_key.specs.Forms.{literal_compare}
 use Rattle.cd_key.specs.Multisets.{sorted_down, count_of}
@@ -17,9 +17,6 @@ use Rattle.cd_key.proofs.MultisetLemmas.{count-cons, back_less, back_greater, co
 
 less_equal : Less ≢ Equal
 less_equal e = cc
-
-less_greater : Less ≢ Greater
-less_greater e = cc
 
 -- the same sign, and a smaller lesser side
 signs_same : (b : Bool) → bool_cmp b b ≡ Equal
@@ -45,8 +42,8 @@ module _ {X : Type 0} (R : X → X → Ordering) (T : IsTotalOrder R) where
   left_falls b s' s t Equal Less p q e = absurd (less_equal (sym (T.trans s' s t e q) ∙ p))
   left_falls b s' s t Equal Equal p q e = absurd (less_equal (sym (sym (alike_right T s t s' q) ∙ e) ∙ p))
   left_falls b s' s t Equal Greater p q e = at_once (R s' s) _ e
-  left_falls b s' s t Greater Less p q e = absurd (less_greater (sym (T.trans s' s t e q) ∙ p))
-  left_falls b s' s t Greater Equal p q e = absurd (less_greater (sym (sym (alike_right T s t s' q) ∙ e) ∙ p))
+  left_falls b s' s t Greater Less p q e = absurd (less_not_greater (sym (T.trans s' s t e q) ∙ p))
+  left_falls b s' s t Greater Equal p q e = absurd (less_not_greater (sym (sym (alike_right T s t s' q) ∙ e) ∙ p))
   left_falls b s' s t Greater Greater p q e = at_once (R s' s) _ e
 
   -- the same for their right sides
@@ -77,8 +74,8 @@ module _ {X : Type 0} (R : X → X → Ordering) (T : IsTotalOrder R) where
   right_falls b s' s t Greater Less p q e = at_once (R t s) _ q
   right_falls b s' s t Greater Equal p q e = finish b (R t t) (R s' s) (tied_itself T t) e
   right_falls b s' s t Greater Greater p q e = finish b (R t t) (R s' s) (tied_itself T t) e
-  right_falls b s' s t Less Equal p q e = absurd (less_greater (greater_only Less (R t s') p (above s' s t Equal q equal_less e)))
-  right_falls b s' s t Less Greater p q e = absurd (less_greater (greater_only Less (R t s') p (above s' s t Greater q greater_less e)))
+  right_falls b s' s t Less Equal p q e = absurd (less_not_greater (greater_only Less (R t s') p (above s' s t Equal q equal_less e)))
+  right_falls b s' s t Less Greater p q e = absurd (less_not_greater (greater_only Less (R t s') p (above s' s t Greater q greater_less e)))
   right_falls b s' s t Equal Equal p q e = absurd (equal_greater (greater_only Equal (R t s') p (above s' s t Equal q equal_less e)))
   right_falls b s' s t Equal Greater p q e = absurd (equal_greater (greater_only Equal (R t s') p (above s' s t Greater q greater_less e)))
 

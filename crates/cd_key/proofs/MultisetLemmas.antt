@@ -7,11 +7,11 @@ use Rattle.std.specs.Cmp.Lexicographic.{slice_cmp}
 use Rattle.std.specs.Ordering.{nat_cmp, ordering_then, ordering_reverse, is_lt, is_eq}
 use Rattle.std.specs.declared.cmp.Ordering.{Ordering}
 use Rattle.std.specs.declared.cmp.Ordering.TheVariants.{Less, Equal, Greater}
-use Rattle.std.proofs.lemmas.Bool.{cases_lt}
+use Rattle.std.proofs.lemmas.Bool.{cases_lt, false_from_ne_true}
 use Rattle.std.proofs.lemmas.Bool.Decides.{nat_tests}
 use Rattle.std.proofs.lemmas.Cmp.{tied_itself, tied_back, alike_right}
 use Rattle.std.proofs.lemmas.List.Sums.{sum_by-cons}
-use Rattle.cd_kbo.proofs.Orderings.{is_less, is_equal, is_greater}
+use Rattle.cd_kbo.proofs.Orderings.{is_less, is_equal, is_greater, less_not_greater}
 use Rattle.cd_key.specs.Multisets.{put_down, sorted_down, count_of, counts_differ, IsTop}
 
 -- the same number more on either side
@@ -23,10 +23,6 @@ shifted a m n = ⊎_elim {C = nat_cmp (a + m) (a + n) ≡ nat_cmp m n}
     (λ (le : m ≤ n). is_equal (a + m) (a + n) (omega arith) ∙ sym (is_equal m n (omega arith)))
     (cases_lt n m))
     (cases_lt m n)
-
-not_true : (b : Bool) → b ≢ true → b ≡ false
-not_true true h = absurd (h refl)
-not_true false h = refl
 
 pub is_lt_Less : (r : Ordering) → is_lt r ≡ true → r ≡ Less
 is_lt_Less Less e = refl
@@ -45,9 +41,6 @@ is_eq_Equal Greater e = cc
 
 not_Less : Equal ≢ Less
 not_Less e = cc
-
-less_not_greater : Less ≢ Greater
-less_not_greater e = cc
 
 -- a count differs
 pub uneven : (m n : ℕ) → not (nat_eq m n) ≡ true → m ≢ n
@@ -101,7 +94,7 @@ module _ {X : Type 0} (R : X → X → Ordering) where
 
     -- what is no more than p is not the same as what is above it
     apart : (p y z : X) → R p y ≢ Less → R p z ≡ Less → is_eq (R z y) ≡ false
-    apart p y z h e = not_true (is_eq (R z y)) (λ k. h (back_greater y p
+    apart p y z h e = false_from_ne_true (is_eq (R z y)) (λ k. h (back_greater y p
         (sym (T.congr z y p (is_eq_Equal (R z y) k)) ∙ back_less p z e)))
 
     none_above : (p z : X) (ys : List X) → AllByRecursion (λ y. R p y ≢ Less) ys → R p z ≡ Less → count_of R z ys ≡ 0
@@ -227,7 +220,7 @@ module _ {X : Type 0} (R : X → X → Ordering) where
     not_above c d x z (y ∷ ys) all h e = omega (
       arith,
       count-cons z y ys,
-      ap {B = ℕ} (λ b. cond b 1 0) (not_true (is_eq (R z y)) (λ k. all.0 (differ_tied c d z y (is_eq_Equal (R z y) k) h) (sym (alike_right T z y x (is_eq_Equal (R z y) k)) ∙ e))),
+      ap {B = ℕ} (λ b. cond b 1 0) (false_from_ne_true (is_eq (R z y)) (λ k. all.0 (differ_tied c d z y (is_eq_Equal (R z y) k) h) (sym (alike_right T z y x (is_eq_Equal (R z y) k)) ∙ e))),
       not_above c d x z ys all.1 h e,
     )
 
@@ -253,7 +246,7 @@ module _ {X : Type 0} (R : X → X → Ordering) where
     even_there c d z (y ∷ ys) all h = omega (
       arith,
       count-cons z y ys,
-      ap {B = ℕ} (λ b. cond b 1 0) (not_true (is_eq (R z y)) (λ k. apart_tests (sym all.0 ∙ differ_tied c d z y (is_eq_Equal (R z y) k) h))),
+      ap {B = ℕ} (λ b. cond b 1 0) (false_from_ne_true (is_eq (R z y)) (λ k. apart_tests (sym all.0 ∙ differ_tied c d z y (is_eq_Equal (R z y) k) h))),
       even_there c d z ys all.1 h,
     )
       where

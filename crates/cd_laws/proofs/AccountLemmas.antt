@@ -1,9 +1,11 @@
 -- In every run each task of live names is owed once, or was done once with each conclusion kept.
-use Rattle.std.proofs.Common.{◌≡◌, inl, inr, ℕ, zero, suc, ◌+◌, ◌*◌, ◌<◌, ◌≤◌, ◌==◌, nat_lt, nat_le, ◌&&◌, Bool, true, false, cond, List, [], ◌∷◌, ◌++◌, length, map, find, Option, None, Some, slice_get, refl, sym, ap, ◌∙◌, subst, arith, append_assoc}
+use Rattle.std.proofs.Common.{◌≡◌, inl, inr, ℕ, zero, suc, ◌+◌, ◌*◌, ◌≤◌, ◌==◌, nat_lt, nat_le, ◌&&◌, Bool, true, false, cond, List, [], ◌∷◌, ◌++◌, length, map, Option, None, Some, slice_get, refl, sym, ap, ◌∙◌, subst, arith, append_assoc}
 use Rattle.std.specs.List.{AllByRecursion, range_with_len}
 use Rattle.std.proofs.lemmas.Bool.Decides.{nat_tests}
 use Rattle.std.proofs.lemmas.List.{length-append}
 use Rattle.std.proofs.lemmas.Option.{slice_get_within}
+use Rattle.std.proofs.lemmas.Bool.{and_parts, lt-ltb, eqb-true}
+use Rattle.cd_ledger.proofs.NameLemmas.{equal_names, same_name}
 use Rattle.cd_names.specs.declared.names.Name.{Name}
 use Rattle.cd_clause.specs.declared.Clause.{Clause}
 use Rattle.cd_steps.specs.declared.Step.{Step}
@@ -32,41 +34,23 @@ use Rattle.cd_ledger.specs.Counts.{tally}
 use Rattle.cd_ledger.specs.Names.{name_eq, look}
 use Rattle.cd_ledger.specs.Machine.{IsItemOf, AreInputItems, AreTaskItems, IsStart, IsFirstSubsumer, name_of, next_name, tasks_of, recorded_item, settlement, dropped, kept, Yield, IsYield, worked, Concludes, Found, Fits, acted, after}
 use Rattle.cd_ledger.specs.World.{World, Run, WorldStep}
-use Rattle.cd_ledger.proofs.Lists.{all_append, all_remove, all_weaker, all_get, all_set, get_at, found_at}
+use Rattle.cd_list.proofs.Lists.{all_append, all_remove, all_weaker, all_get, all_set, get_at, found_at, find_left}
 use Rattle.cd_laws.specs.Accounts.{task_eq, is_conclusion, BeginsWith, IsReplayed, Lead, OutcomeHolds, IsEntryRight, IsItemKept, IsEntryKept, IsTaskDone, IsAccounted, IsLiveName, AreAccounted, RunsAreAccounted}
-use Rattle.cd_laws.proofs.RightLemmas.{both, same_number}
-use Rattle.cd_laws.proofs.ModelsLemmas.{equal_itself}
 use Rattle.cd_ledger.proofs.FewLemmas.{each_gathered}
 use Rattle.cd_ledger.proofs.Tally.{tally_append, tally_push, tally_map, tally_remove, tally_none, tally_and_right, tally_and_left, product, passing, tally_agree}
 use Rattle.cd_laws.proofs.SameConclusions.{concludes_same}
 
 -- ---- names and tasks
 
-name_same : (a b : Name) → name_eq a b ≡ true → a ≡ b
-name_same a b h =
-    let e = both (a.peer == b.peer) (a.seq == b.seq) h in
-    ap (λ (n : ℕ). record { peer = n; seq = a.seq }) (same_number a.peer b.peer e.0) ∙ ap (λ (n : ℕ). record { peer = b.peer; seq = n }) (same_number a.seq b.seq e.1)
-
-name_itself : (a : Name) → name_eq a a ≡ true
-name_itself a = ap (λ (b : Bool). b && (a.seq == a.seq)) (equal_itself a.peer) ∙ equal_itself a.seq
-
 task_same : (t u : Task) → task_eq t u ≡ true → t ≡ u
-task_same (Solo a) (Solo b) h = ap Solo (name_same a b h)
+task_same (Solo a) (Solo b) h = ap Solo (equal_names a b h)
 task_same (Solo a) (Pair b c) h = absurd cc
 task_same (Pair a b) (Solo c) h = absurd cc
 task_same (Pair a b) (Pair c d) h =
-    let e = both (name_eq a c) (name_eq b d) h in
-    ap (λ (n : Name). Pair n b) (name_same a c e.0) ∙ ap (λ (n : Name). Pair c n) (name_same b d e.1)
+    let e = and_parts (name_eq a c) (name_eq b d) h in
+    ap (λ (n : Name). Pair n b) (equal_names a c e.0) ∙ ap (λ (n : Name). Pair c n) (equal_names b d e.1)
 
 -- ---- what is known stays known
-
-find_by : {A : Type 0} (x y : A) (b : Bool) (o p : Option A) → (o ≡ Some y → p ≡ Some y) → cond b (Some x) o ≡ Some y → cond b (Some x) p ≡ Some y
-find_by x y true o p later h = h
-find_by x y false o p later h = later h
-
-find_left : {A : Type 0} (test : A → Bool) (xs ys : List A) (x : A) → find test xs ≡ Some x → find test (xs ++ ys) ≡ Some x
-find_left test [] ys x h = absurd cc
-find_left test (y ∷ xs) ys x h = find_by y x (test y) (find test xs) (find test (xs ++ ys)) (find_left test xs ys x) h
 
 concludes_more : (known more : List Known) (t : Task) (found : List Conclusion) → Concludes known t found → Concludes (known ++ more) t found
 concludes_more known more (Solo a) found c = (c.0, find_left (λ k. name_eq k.entry.name a) known more c.0 c.1, c.2)
@@ -148,7 +132,7 @@ settled_item p known item outcome right holds = (right.0, record { clause = item
 -- ---- what is known under a name that one record has
 
 name_turned : (a b : Name) → name_eq a b ≡ true → name_eq b a ≡ true
-name_turned a b h = subst (λ (n : Name). name_eq n a ≡ true) (name_same a b h) (name_itself a)
+name_turned a b h = subst (λ (n : Name). name_eq n a ≡ true) (equal_names a b h) (same_name a)
 
 tally_has : (test : Name → Bool) (front : List Known) (k : Known) (back : List Known) → test (name_of k) ≡ true → 1 ≤ tally test (map name_of (front ++ k ∷ back))
 tally_has test [] k back is =
@@ -165,10 +149,10 @@ look_by false n x rest k is some few later = later (omega (arith, few))
 
 look_split : (n : Name) (front : List Known) (k : Known) (back : List Known) → n ≡ k.entry.name → tally (name_eq n) (map name_of (front ++ k ∷ back)) ≤ 1 → look (front ++ k ∷ back) n ≡ Some k
 look_split n [] k back is few =
-    let test : name_eq k.entry.name n ≡ true = subst (λ (m : Name). name_eq m n ≡ true) is (name_itself n) in
+    let test : name_eq k.entry.name n ≡ true = subst (λ (m : Name). name_eq m n ≡ true) is (same_name n) in
     ap (λ (b : Bool). cond b (Some k) (look back n)) test
 look_split n (x ∷ front) k back is few =
-    look_by (name_eq x.entry.name n) n x (front ++ k ∷ back) k refl (tally_has (name_eq n) front k back (subst (λ (m : Name). name_eq n m ≡ true) is (name_itself n))) few (look_split n front k back is)
+    look_by (name_eq x.entry.name n) n x (front ++ k ∷ back) k refl (tally_has (name_eq n) front k back (subst (λ (m : Name). name_eq n m ≡ true) is (same_name n))) few (look_split n front k back is)
 
 at_most_one : (b : Bool) → cond b 1 0 ≤ 1
 at_most_one true = omega arith
@@ -317,9 +301,9 @@ items_from_start t task k found items are = items_tally t task k 0 found items a
 at_replayed : (p : Problem) (known : List Known) (m n : Name) (x y : Known) (i j : ℕ) (part : List Conclusion) → look known m ≡ Some x → look known n ≡ Some y → ResolvesAt m x.entry.clause n y.entry.clause i j part
     → AllByRecursion (λ c. IsReplayed p known None c.step c.clause) part
 at_replayed p known m n x y i j part at_m at_n (inl r) =
-    let both : ResolvesBoth (Some x.entry.clause) i (Some y.entry.clause) j [] (resolvent_of x.entry.clause i y.entry.clause j) =
+    let and_parts : ResolvesBoth (Some x.entry.clause) i (Some y.entry.clause) j [] (resolvent_of x.entry.clause i y.entry.clause j) =
     record { left = x.entry.clause; right = y.entry.clause; has_left = refl; has_right = refl; resolves = record { complementary = r.0.complementary; covers = refl; rest = refl } } in
-    let here : IsReplayed p known None (Resolve m i n j []) (resolvent_of x.entry.clause i y.entry.clause j) = (x, y, at_m, at_n, both) in
+    let here : IsReplayed p known None (Resolve m i n j []) (resolvent_of x.entry.clause i y.entry.clause j) = (x, y, at_m, at_n, and_parts) in
     subst (λ (cs : List Conclusion). AllByRecursion (λ c. IsReplayed p known None c.step c.clause) cs) (sym r.1) (here, tt)
 at_replayed p known m n x y i j part at_m at_n (inr r) = subst (λ (cs : List Conclusion). AllByRecursion (λ c. IsReplayed p known None c.step c.clause) cs) (sym r.1) tt
 
@@ -444,8 +428,8 @@ some_at test (y ∷ xs) (suc k) x there is = let h = some_at test xs k x there i
 live_once : (p : Problem) (s : Local) (a : Name) → IsCounted p s → IsLiveName s a → tally (name_eq a) (map name_of s.known) ≡ 1
 live_once p s a c live =
     let f = found_at (λ k. name_eq k.entry.name a) s.known live.entry live.known in
-    let same : live.entry.entry.name ≡ a = name_same live.entry.entry.name a f.passes in
-    let passes : name_eq a (name_of live.entry) ≡ true = subst (λ (n : Name). name_eq a n ≡ true) (sym same) (name_itself a) in
+    let same : live.entry.entry.name ≡ a = equal_names live.entry.entry.name a f.passes in
+    let passes : name_eq a (name_of live.entry) ≡ true = subst (λ (n : Name). name_eq a n ≡ true) (sym same) (same_name a) in
     let some = some_at (λ k. name_eq a (name_of k)) s.known f.place live.entry f.there passes in
     let mapped = tally_map (name_eq a) name_of s.known in
     let named = c.named a in
@@ -456,8 +440,8 @@ from_conclusion : (known : List Known) (t : Task) (k : ℕ) (found : List Conclu
 unfolding IsFromTask
 from_conclusion known t k found c concludes there (origin.Input index) steps from is = absurd cc
 from_conclusion known t k found c concludes there (origin.Task u n) steps from is =
-    let e = both (task_eq t u) (k == n) is in
-    let number : n ≡ k = sym (same_number k n e.1) in
+    let e = and_parts (task_eq t u) (k == n) is in
+    let number : n ≡ k = sym (eqb-true k n e.1) in
     let concluded : Concludes known t from.0 = subst (λ (x : Task). Concludes known x from.0) (sym (task_same t u e.0)) from.2 in
     let list : from.0 ≡ found = concludes_same known t from.0 found concluded concludes in
     let there_too : slice_get found k ≡ Some from.1 = ap (λ (l : List Conclusion). slice_get l k) (sym list) ∙ ap (slice_get from.0) (sym number) ∙ from.3 in
@@ -473,9 +457,6 @@ same_count known t found concludes d right is =
 done_concludes : (known : List Known) (t : Task) (d : Done) → IsDoneRight known d → task_eq t d.task ≡ true → (found : List Conclusion) × Concludes known t found
 unfolding IsDoneRight
 done_concludes known t d right is = (right.0, subst (λ (x : Task). Concludes known x right.0) (sym (task_same t d.task is)) right.1)
-
-below : (m n : ℕ) → m < n → nat_lt m n ≡ true
-below m n h = grind (arith, nat_tests)
 
 pending_kept : (p : Problem) (known : List Known) (t : Task) (k : ℕ) (found : List Conclusion) (c : Conclusion) → Concludes known t found → slice_get found k ≡ Some c → (i : Item) → IsPendingRight p known i → is_conclusion t k i.origin ≡ true → IsItemKept p known c i
 unfolding IsPendingRight
@@ -498,10 +479,10 @@ task_done p s t c once =
           let within = slice_get_within found k x there in
           let agree : tally (λ (d : Done). task_eq t d.task && nat_lt k d.conclusions) s.done ≡ tally (λ (d : Done). task_eq t d.task) s.done =
           tally_agree (λ (d : Done). task_eq t d.task && nat_lt k d.conclusions) (λ (d : Done). task_eq t d.task) (IsDoneRight s.known) s.done c.done
-          (λ d right is. (both (task_eq t d.task) (nat_lt k d.conclusions) is).0)
+          (λ d right is. (and_parts (task_eq t d.task) (nat_lt k d.conclusions) is).0)
           (λ d right is.
           let n = same_count s.known t found f.1 d right is in
-          let lt : nat_lt k d.conclusions ≡ true = below k d.conclusions (omega (arith, n, within)) in
+          let lt : nat_lt k d.conclusions ≡ true = lt-ltb k d.conclusions (omega (arith, n, within)) in
           ap (λ (b : Bool). b && nat_lt k d.conclusions) is ∙ lt) in
           record {
             once = c.items t k ∙ agree ∙ once;

@@ -28,7 +28,7 @@ use Rattle.cd_ledger.specs.declared.Task.TheVariants.{Solo, Pair}
 use Rattle.cd_ledger.specs.Names.{name_eq, look}
 use Rattle.cd_ledger.specs.Machine.{IsItemOf, AreTaskItems, IsStart, recorded_item, Concludes, Found, Fits, acted, after}
 use Rattle.cd_ledger.specs.World.{World, Run, WorldStep}
-use Rattle.cd_ledger.proofs.Lists.{all_append, all_remove, all_get, all_find, all_set}
+use Rattle.cd_list.proofs.Lists.{all_append, all_remove, all_get, all_find, all_set}
 use Rattle.cd_laws.specs.Formed.{HasFormed, RunsHaveFormed}
 use Rattle.cd_ledger.proofs.TidyItems.{HasNoTerms, item_tidied, tidied_atoms, task_items_all, input_items_all}
 use Rattle.cd_ledger.proofs.FewLemmas.{pair_all}

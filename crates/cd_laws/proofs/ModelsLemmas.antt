@@ -1,7 +1,8 @@
 -- The clauses that the peers carry have exactly the models of the input: each event keeps them.
-use Rattle.std.proofs.Common.{◌≡◌, ◌↔◌, ℕ, zero, suc, ◌+◌, ◌==◌, inl, inr, Bool, true, false, cond, List, [], ◌∷◌, ◌++◌, length, map, filter, remove, Some, None, slice_get, slice_set, refl, sym, ap, ◌∙◌, subst, arith}
+use Rattle.std.proofs.Common.{◌≡◌, ◌↔◌, ℕ, ◌+◌, ◌==◌, inl, inr, Bool, true, List, [], ◌∷◌, ◌++◌, length, map, Some, None, refl, sym, ap, ◌∙◌, subst}
 use Rattle.std.specs.List.{AllByRecursion, list_any, range_with_len, flat_map}
-use Rattle.std.proofs.lemmas.Bool.Decides.{nat_tests}
+use Rattle.std.proofs.lemmas.Bool.{or_cases, or_left, or_right}
+use Rattle.cd_list.proofs.Numbers.{equal_itself}
 use Rattle.cd_clause.specs.declared.Clause.{Clause}
 use Rattle.cd_clause.specs.Truth.{Interp, IsInterp, Holds, Models, literal_true}
 use Rattle.cd_clause.specs.Clauses.{Among}
@@ -11,7 +12,7 @@ use Rattle.cd_names.specs.declared.names.Name.{Name}
 use Rattle.cd_steps.specs.declared.Step.{Step}
 use Rattle.cd_steps.specs.declared.Step.TheVariants.{Input, Resolve}
 use Rattle.cd_steps.specs.Steps.{resolvent_of}
-use Rattle.cd_steps.proofs.Soundness.{either, left_true, right_true, steps_are_sound}
+use Rattle.cd_steps.proofs.Soundness.{steps_are_sound}
 use Rattle.cd_infer.specs.declared.Conclusion.{Conclusion}
 use Rattle.cd_infer.specs.Conclusions.{ResolvesAt, ResolvesFrom, PairConcludes}
 use Rattle.cd_read.specs.declared.problem.Problem.{Problem}
@@ -32,58 +33,16 @@ use Rattle.cd_ledger.specs.Names.{name_eq, look}
 use Rattle.cd_ledger.specs.declared.Record.{Record}
 use Rattle.cd_ledger.specs.Machine.{IsItemOf, AreInputItems, AreTaskItems, IsStart, Subsumes, IsFirstSubsumer, recorded_item, IsQuiet, Concludes, Found, Fits, acted, after}
 use Rattle.cd_ledger.specs.World.{World, Run, WorldStep, IsStartWorld}
-use Rattle.cd_ledger.proofs.Lists.{all_append, all_remove, all_get, all_find, all_set}
+use Rattle.cd_list.proofs.Lists.{all_append, all_remove, all_get, all_find, all_set, all_left, all_right, all_map, all_unmap, all_unremove, all_unset, filter_all}
 use Rattle.cd_laws.specs.Right.{record_of, records_of}
 use Rattle.cd_laws.specs.Models.{is_live_at, clause_of, carried_by, recorded_clauses, RunsKeepModels, ClosedRunsKeepModels}
 use Rattle.cd_ledger.proofs.TidyItems.{item_tidied, task_items_all}
 use Rattle.cd_ledger.proofs.FewLemmas.{each_gathered}
 
--- ---- lists
-
-all_left : {A : Type 0} (P : A → Type 0) (xs ys : List A) → AllByRecursion P (xs ++ ys) → AllByRecursion P xs
-all_left P [] ys all = tt
-all_left P (x ∷ xs) ys all = (all.0, all_left P xs ys all.1)
-
-all_right : {A : Type 0} (P : A → Type 0) (xs ys : List A) → AllByRecursion P (xs ++ ys) → AllByRecursion P ys
-all_right P [] ys all = all
-all_right P (x ∷ xs) ys all = all_right P xs ys all.1
-
-all_map : {A B : Type 0} (P : B → Type 0) (f : A → B) (xs : List A) → AllByRecursion (λ x. P (f x)) xs → AllByRecursion P (map f xs)
-all_map P f [] all = tt
-all_map P f (x ∷ xs) all = (all.0, all_map P f xs all.1)
-
-all_unmap : {A B : Type 0} (P : B → Type 0) (f : A → B) (xs : List A) → AllByRecursion P (map f xs) → AllByRecursion (λ x. P (f x)) xs
-all_unmap P f [] all = tt
-all_unmap P f (x ∷ xs) all = (all.0, all_unmap P f xs all.1)
-
--- an item is put back in its place
-all_unremove : {A : Type 0} (P : A → Type 0) (xs : List A) (k : ℕ) (x : A) → slice_get xs k ≡ Some x → P x → AllByRecursion P (remove xs k) → AllByRecursion P xs
-all_unremove P [] k x there here all = tt
-all_unremove P (y ∷ ys) zero x there here all = let e : x ≡ y = cc in (subst P e here, all)
-all_unremove P (y ∷ ys) (suc k) x there here all = (all.0, all_unremove P ys k x there here all.1)
-
--- what is written in a place has what stood there
-all_unset : {A : Type 0} (P : A → Type 0) (xs : List A) (k : ℕ) (x y : A) → slice_get xs k ≡ Some x → (P y → P x) → AllByRecursion P (slice_set xs k y) → AllByRecursion P xs
-all_unset P [] k x y there back all = tt
-all_unset P (z ∷ zs) zero x y there back all = let e : x ≡ z = cc in (subst P e (back all.0), all.1)
-all_unset P (z ∷ zs) (suc k) x y there back all = (all.0, all_unset P zs k x y there back all.1)
-
-filter_by : {A : Type 0} (b : Bool) (x : A) (xs : List A) → b ≡ true → cond b (x ∷ xs) xs ≡ x ∷ xs
-filter_by true x xs h = refl
-filter_by false x xs h = absurd cc
-
--- where each item passes, all are kept
-filter_all : {A : Type 0} (test : A → Bool) (xs : List A) → AllByRecursion (λ x. test x ≡ true) xs → filter test xs ≡ xs
-filter_all test [] all = refl
-filter_all test (x ∷ xs) all = ap (λ ys. cond (test x) (x ∷ ys) ys) (filter_all test xs all.1) ∙ filter_by (test x) x xs all.0
-
 -- ---- every known name is live
 
 AllLive : Local → Type 0
 AllLive s = AllByRecursion (λ k. is_live_at s.me k ≡ true) s.known
-
-pub equal_itself : (n : ℕ) → (n == n) ≡ true
-equal_itself n = grind (arith, nat_tests)
 
 acted_live : (s : Local) (act : Act) (found : Found act) → AllLive s → Fits s act found → AllLive (acted s act found)
 unfolding AllLive
@@ -141,12 +100,12 @@ items_hold interp t found items is all are =
 -- a clause all of whose literals occur in another holds only where that does
 any_occurs : (test : Literal → Bool) (l : Literal) (ms : List Literal) → Among (λ m. l ≡ m) ms → test l ≡ true → list_any test ms ≡ true
 any_occurs test l [] some is = absurd some
-any_occurs test l (m ∷ ms) (inl e) is = left_true (test m) (list_any test ms) (ap test (sym e) ∙ is)
-any_occurs test l (m ∷ ms) (inr later) is = right_true (test m) (list_any test ms) (any_occurs test l ms later is)
+any_occurs test l (m ∷ ms) (inl e) is = or_left (test m) (list_any test ms) (ap test (sym e) ∙ is)
+any_occurs test l (m ∷ ms) (inr later) is = or_right (test m) (list_any test ms) (any_occurs test l ms later is)
 
 any_subsumed : (test : Literal → Bool) (ls ms : List Literal) → AllByRecursion (λ l. Among (λ m. l ≡ m) ms) ls → list_any test ls ≡ true → list_any test ms ≡ true
 any_subsumed test [] ms all any = absurd cc
-any_subsumed test (l ∷ ls) ms all any = elim (either (test l) (list_any test ls) any) [
+any_subsumed test (l ∷ ls) ms all any = elim (or_cases (test l) (list_any test ls) any) [
   | inl here ↦ any_occurs test l ms all.0 here
   | inr later ↦ any_subsumed test ls ms all.1 later
 ]
@@ -154,15 +113,10 @@ any_subsumed test (l ∷ ls) ms all any = elim (either (test l) (list_any test l
 subsumed_holds : (interp : Interp) (d c : Clause) → Subsumes d c → Holds interp d → Holds interp c
 subsumed_holds interp d c sub h = record { at_each = λ point within. any_subsumed (literal_true interp point) d.literals c.literals sub (h.at_each point within) }
 
--- what holds of each holds of the one behind a front
-all_at : {A : Type 0} (P : A → Type 0) (xs : List A) (x : A) (ys : List A) → AllByRecursion P (xs ++ x ∷ ys) → P x
-all_at P [] x ys all = all.0
-all_at P (z ∷ xs) x ys all = all_at P xs x ys all.1
-
 subsumer_holds : (interp : Interp) (known : List Known) (c : Clause) (k : Known) → IsFirstSubsumer known c k → AllByRecursion (λ x. Holds interp x.entry.clause) known → Holds interp c
 subsumer_holds interp known c k first all =
     subsumed_holds interp k.entry.clause c first.subsumes.1
-    (all_at (λ x. Holds interp x.entry.clause) first.front k first.back (subst (AllByRecursion (λ x. Holds interp x.entry.clause)) first.split all))
+    (all_right (λ x. Holds interp x.entry.clause) first.front (k ∷ first.back) (subst (AllByRecursion (λ x. Holds interp x.entry.clause)) first.split all)).0
 
 -- what holds before an event holds after it
 acted_hold : (interp : Interp) (s : Local) (act : Act) (found : Found act) → IsInterp interp → Fits s act found → HoldAt interp s → HoldAt interp (acted s act found)

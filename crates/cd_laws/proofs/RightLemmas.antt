@@ -1,10 +1,10 @@
 -- In every run each record stands, by right steps, on the inputs and on records before it.
-use Rattle.std.proofs.Common.{◌≡◌, ℕ, zero, suc, ◌+◌, ◌<◌, ◌≤◌, ◌==◌, inl, inr, Bool, true, false, ◌&&◌, cond, List, [], ◌∷◌, ◌++◌, length, map, remove, Option, Some, None, slice_get, refl, sym, ap, ◌∙◌, subst, arith, append_assoc, append-nil}
+use Rattle.std.proofs.Common.{◌≡◌, ℕ, zero, suc, ◌+◌, ◌<◌, ◌≤◌, inl, inr, Bool, true, false, cond, List, [], ◌∷◌, ◌++◌, length, map, remove, Option, Some, None, slice_get, refl, sym, ap, ◌∙◌, subst, arith, append_assoc, append-nil}
 use Rattle.std.specs.List.{AllByRecursion, range_with_len}
-use Rattle.std.proofs.lemmas.Bool.Decides.{nat_tests}
 use Rattle.std.proofs.lemmas.List.{length-append, length-map}
 use Rattle.std.proofs.lemmas.Option.{slice_get-map, slice_get_within}
 use Rattle.std.specs.Option.{option_map}
+use Rattle.cd_ledger.proofs.NameLemmas.{equal_names}
 use Rattle.cd_clause.specs.declared.Clause.{Clause}
 use Rattle.cd_clause.specs.declared.Literal.{Literal}
 use Rattle.cd_clause.specs.Clauses.{IsTautology}
@@ -37,7 +37,7 @@ use Rattle.cd_ledger.specs.Names.{name_eq, look}
 use Rattle.cd_ledger.specs.Machine.{IsItemOf, AreInputItems, AreTaskItems, IsStart, next_name, recorded_item, dropped, kept, is_empty, Concludes, Found, Fits, acted, after}
 use Rattle.cd_ledger.specs.Lean.{IsCandidate, IsUsable}
 use Rattle.cd_ledger.specs.World.{World, Run, WorldStep, has_empty}
-use Rattle.cd_ledger.proofs.Lists.{all_append, all_remove, all_weaker, all_get, all_find, all_set, get_left, get_at, found_at}
+use Rattle.cd_list.proofs.Lists.{all_append, all_remove, all_weaker, all_get, all_find, all_set, get_left, get_at, found_at}
 use Rattle.cd_ledger.proofs.Empty.{has_empty-push}
 use Rattle.cd_ledger.proofs.TidyItems.{item_candidate, task_items_all, input_items_all}
 use Rattle.cd_ledger.proofs.LeanLemmas.{lean, lean_short}
@@ -58,7 +58,7 @@ steps_more : (p : Problem) (me : ℕ) (before more : List Record) (current : Opt
 steps_more p me before more current [] c h = h
 steps_more p me before more current (s ∷ ss) c h = (h.0, step_more p me before more current s h.0 h.1, steps_more p me before more (Some h.0) ss c h.2)
 
-records_push : (p : Problem) (me : ℕ) (before rs : List Record) (r : Record) → AreRecordsRight p me before rs → IsRecordRight p me (before ++ rs) r → AreRecordsRight p me before (rs ++ r ∷ [])
+pub records_push : (p : Problem) (me : ℕ) (before rs : List Record) (r : Record) → AreRecordsRight p me before rs → IsRecordRight p me (before ++ rs) r → AreRecordsRight p me before (rs ++ r ∷ [])
 records_push p me before [] r all here = (subst (λ (b : List Record). IsRecordRight p me b r) (append-nil before) here, tt)
 records_push p me before (q ∷ rs) r all here =
     let e : before ++ q ∷ rs ≡ (before ++ q ∷ []) ++ rs = sym (append_assoc before (q ∷ []) rs) in
@@ -75,23 +75,16 @@ record_at p me before (q ∷ rs) (suc j) r all there =
     let k : length (before ++ q ∷ []) + j ≡ length before + suc j = omega (arith, length-append before (q ∷ [])) in
     record_at p me (before ++ q ∷ []) rs j r all.1 there ∙ ap (λ (n : ℕ). record { peer = me; seq = n }) k
 
-pub both : (a b : Bool) → (a && b) ≡ true → (a ≡ true) × (b ≡ true)
-both true b h = (refl, h)
-both false b h = absurd cc
-
-pub same_number : (m n : ℕ) → (m == n) ≡ true → m ≡ n
-same_number m n h = grind (arith, nat_tests)
-
 -- what is known under a name is named so
 pub found_named : (p : Problem) (me : ℕ) (known : List Known) (n : Name) (x : Known) → AreRecordsRight p me [] (map record_of known) → look known n ≡ Some x → IsNamed me (map record_of known) n x.entry
 found_named p me known n x all found =
     let f = found_at (λ k. name_eq k.entry.name n) known x found in
     let there : slice_get (map record_of known) f.place ≡ Some x.entry = slice_get-map record_of known f.place ∙ ap (option_map record_of) f.there in
     let name = record_at p me [] (map record_of known) f.place x.entry all there in
-    let e = both (x.entry.name.peer == n.peer) (x.entry.name.seq == n.seq) f.passes in
-    let peer : n.peer ≡ me = sym (same_number x.entry.name.peer n.peer e.0) ∙ ap (λ (m : Name). m.peer) name in
+    let same = equal_names x.entry.name n f.passes in
     let zero_plus : 0 + f.place ≡ f.place = omega arith in
-    let seq : n.seq ≡ f.place = sym (same_number x.entry.name.seq n.seq e.1) ∙ ap (λ (m : Name). m.seq) name ∙ zero_plus in
+    let peer : n.peer ≡ me = sym (ap (λ (m : Name). m.peer) same) ∙ ap (λ (m : Name). m.peer) name in
+    let seq : n.seq ≡ f.place = sym (ap (λ (m : Name). m.seq) same) ∙ ap (λ (m : Name). m.seq) name ∙ zero_plus in
     record { peer = peer; there = ap (slice_get (map record_of known)) seq ∙ there }
 
 -- ---- conclusions are right

@@ -3,6 +3,8 @@ use Rattle.std.proofs.Common.{◌≡◌, ◌≢◌, ℕ, zero, suc, ◌+◌, ◌
 use Rattle.std.specs.List.{AllByRecursion, list_any, range_with_len}
 use Rattle.std.proofs.lemmas.Bool.Decides.{nat_tests}
 use Rattle.std.proofs.lemmas.List.{length-append}
+use Rattle.std.proofs.lemmas.Bool.{or_parts}
+use Rattle.cd_list.proofs.Numbers.{equal_itself}
 use Rattle.cd_clause.specs.declared.Atom.{Atom}
 use Rattle.cd_clause.specs.declared.Atom.TheVariants.{Truth, Pred, Equal}
 use Rattle.cd_clause.specs.declared.Literal.{Literal}
@@ -19,7 +21,7 @@ use Rattle.cd_ledger.specs.declared.Task.TheVariants.{Solo, Pair}
 use Rattle.cd_ledger.specs.Names.{name_eq, look}
 use Rattle.cd_ledger.specs.Machine.{Concludes}
 use Rattle.cd_ledger.specs.Lean.{has_predicate, IsLean, IsUsable}
-use Rattle.cd_ledger.proofs.Lists.{all_append, all_remove, all_find}
+use Rattle.cd_list.proofs.Lists.{all_append, all_remove, all_find, all_get}
 use Rattle.cd_ledger.proofs.LeanLemmas.{one_place}
 
 -- ---- gathered lists
@@ -57,27 +59,14 @@ neither m n b c h k = grind (arith, nat_tests, h, k)
 
 not_greater : (test : Literal → Bool) (ls : List Literal) (k : ℕ) (l : Literal) → slice_get ls k ≡ Some l → list_any test ls ≡ false → test l ≡ false
 not_greater test [] k l there none = absurd cc
-not_greater test (x ∷ ls) zero l there none = let e : x ≡ l = cc in subst (λ y. test y ≡ false) e (left (test x) (list_any test ls) none)
-  where
-    left : (a b : Bool) → (a || b) ≡ false → a ≡ false
-    left true b h = absurd cc
-    left false b h = refl
-not_greater test (x ∷ ls) (suc k) l there none = not_greater test ls k l there (right (test x) (list_any test ls) none)
-  where
-    right : (a b : Bool) → (a || b) ≡ false → b ≡ false
-    right true b h = absurd cc
-    right false b h = h
+not_greater test (x ∷ ls) zero l there none = let e : x ≡ l = cc in subst (λ y. test y ≡ false) e (or_parts (test x) (list_any test ls) none).0
+not_greater test (x ∷ ls) (suc k) l there none = not_greater test ls k l there (or_parts (test x) (list_any test ls) none).1
 
 -- a propositional atom has a predicate
 pub predicate_at : (a : Atom) → IsPropositionalAtom a → (n : ℕ) × (predicate_of a ≡ Some n)
 predicate_at Truth is = absurd is
 predicate_at (Pred n args) is = (n, refl)
 predicate_at (Equal s t) is = absurd is
-
-all_at : (P : Literal → Type 0) (ls : List Literal) (k : ℕ) (l : Literal) → AllByRecursion P ls → slice_get ls k ≡ Some l → P l
-all_at P [] k l all there = absurd cc
-all_at P (x ∷ ls) zero l all there = let e : x ≡ l = cc in subst P e all.0
-all_at P (x ∷ ls) (suc k) l all there = all_at P ls k l all.1 there
 
 greater_by : (l m : Literal) (p q : ℕ) → predicate_of l.atom ≡ Some p → predicate_of m.atom ≡ Some q → literal_greater l m ≡ (nat_lt q p || ((p == q) && (not l.positive && m.positive)))
 greater_by l m p q at_l at_m = rw (at_l, at_m) refl
@@ -86,17 +75,14 @@ pub one_eligible : (c : Clause) (i j : ℕ) → IsPropositional c → IsLean c �
 one_eligible c i j is lean e f =
     let l = e.literal in
     let m = f.literal in
-    let p = predicate_at l.atom (all_at (λ x. IsPropositionalAtom x.atom) c.literals i l is e.there) in
-    let q = predicate_at m.atom (all_at (λ x. IsPropositionalAtom x.atom) c.literals j m is f.there) in
+    let p = predicate_at l.atom (all_get (λ x. IsPropositionalAtom x.atom) c.literals i l is e.there) in
+    let q = predicate_at m.atom (all_get (λ x. IsPropositionalAtom x.atom) c.literals j m is f.there) in
     let over : literal_greater m l ≡ false = not_greater (λ x. literal_greater x l) c.literals j m f.there e.greatest in
     let under : literal_greater l m ≡ false = not_greater (λ x. literal_greater x m) c.literals i l e.there f.greatest in
     let same : q.0 ≡ p.0 = neither q.0 p.0 m.positive l.positive (sym (greater_by m l q.0 p.0 q.1 p.1) ∙ over) (sym (greater_by l m p.0 q.0 p.1 q.1) ∙ under) in
     let has : has_predicate p.0 l ≡ true = ap (same_predicate (Some p.0)) p.1 ∙ equal_itself p.0 in
     let too : has_predicate p.0 m ≡ true = ap (same_predicate (Some p.0)) q.1 ∙ ap (λ (k : ℕ). p.0 == k) same ∙ equal_itself p.0 in
     one_place p.0 c i j l m lean e.there f.there has too
-  where
-    equal_itself : (n : ℕ) → (n == n) ≡ true
-    equal_itself n = grind (arith, nat_tests)
 
 -- ---- conclusions
 

@@ -1,7 +1,9 @@
 -- A clause that is tidy and no tautology has each predicate once, and so it is short.
-use Rattle.std.proofs.Common.{◌≡◌, ◌⊎◌, ℕ, zero, suc, ◌+◌, ◌≤◌, ◌==◌, nat_lt, inl, inr, Bool, true, false, cond, List, [], ◌∷◌, length, Option, Some, None, slice_get, refl, sym, ap, ◌∙◌, subst, arith}
+use Rattle.std.proofs.Common.{◌≡◌, ◌⊎◌, ℕ, zero, suc, ◌+◌, ◌≤◌, nat_lt, inl, inr, Bool, true, false, cond, List, [], ◌∷◌, length, Option, Some, None, slice_get, refl, sym, ap, ◌∙◌, subst, arith}
 use Rattle.std.specs.List.{AllByRecursion}
 use Rattle.std.proofs.lemmas.Bool.Decides.{nat_tests}
+use Rattle.std.proofs.lemmas.Bool.{eqb-true}
+use Rattle.cd_list.proofs.Lists.{all_weaker}
 use Rattle.cd_clause.specs.declared.Atom.{Atom}
 use Rattle.cd_clause.specs.declared.Atom.TheVariants.{Truth, Pred, Equal}
 use Rattle.cd_clause.specs.declared.Literal.{Literal}
@@ -13,17 +15,11 @@ use Rattle.cd_ledger.specs.Counts.{tally}
 use Rattle.cd_ledger.specs.Lean.{AllPairs, HasNoRepeat, has_predicate, IsLean}
 use Rattle.cd_ledger.proofs.Tally.{tally_fails}
 
-same_number : (m n : ℕ) → (m == n) ≡ true → m ≡ n
-same_number m n h = grind (arith, nat_tests)
-
-equal_itself : (n : ℕ) → (n == n) ≡ true
-equal_itself n = grind (arith, nat_tests)
-
 -- ---- one atom a predicate
 
 pub has_atom : (n : ℕ) (a : Atom) → IsPropositionalAtom a → same_predicate (Some n) (predicate_of a) ≡ true → a ≡ Pred n []
 has_atom n Truth is has = absurd is
-has_atom n (Pred m args) is has = ap (λ (k : ℕ). Pred k args) (sym (same_number n m has)) ∙ ap (Pred n) is.1
+has_atom n (Pred m args) is has = ap (λ (k : ℕ). Pred k args) (sym (eqb-true n m has)) ∙ ap (Pred n) is.1
 has_atom n (Equal s t) is has = absurd is
 
 -- two literals with one predicate are the same, or opposite one way or the other
@@ -43,10 +39,6 @@ none_all P (x ∷ xs) none = ((λ here. none (inl here)), none_all P xs (λ late
 all_with : {A : Type 0} (P Q R : A → Type 0) (xs : List A) → ((x : A) → P x → Q x → R x) → AllByRecursion P xs → AllByRecursion Q xs → AllByRecursion R xs
 all_with P Q R [] f p q = tt
 all_with P Q R (x ∷ xs) f p q = (f x p.0 q.0, all_with P Q R xs f p.1 q.1)
-
-all_weaker : {A : Type 0} (P Q : A → Type 0) (xs : List A) → ((x : A) → P x → Q x) → AllByRecursion P xs → AllByRecursion Q xs
-all_weaker P Q [] f p = tt
-all_weaker P Q (x ∷ xs) f p = (f x p.0, all_weaker P Q xs f p.1)
 
 -- a relation of each with each, read for pairs
 pairs_of : {A : Type 0} (R : A → A → Type 0) (xs : List A) → AllByRecursion (λ x. AllByRecursion (R x) xs) xs → AllPairs (λ x y. R x y × R y x) xs

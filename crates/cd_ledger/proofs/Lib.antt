@@ -1,4 +1,4 @@
-pub mod Lists
+pub mod NameLemmas
 pub mod Empty
 pub mod Tally
 pub mod TidyItems

@@ -2,6 +2,7 @@
 use Rattle.std.proofs.Common.{◌≡◌, ◌≢◌, ℕ, zero, suc, ◌+◌, ◌*◌, ◌&&◌, Bool, true, false, cond, List, [], ◌∷◌, ◌++◌, map, remove, Some, slice_get, refl, sym, ap, ◌∙◌, arith}
 use Rattle.std.proofs.Math.Nat.{mul-add, add-mul}
 use Rattle.std.specs.List.{AllByRecursion}
+use Rattle.std.proofs.Math.Bool.{and-false, and-true}
 use Rattle.cd_ledger.specs.Counts.{tally}
 
 pub tally_append : {X : Type 0} (test : X → Bool) (xs ys : List X) → tally test (xs ++ ys) ≡ tally test xs + tally test ys
@@ -28,22 +29,14 @@ pub tally_none : {X : Type 0} (xs : List X) → tally (λ (x : X). false) xs ≡
 tally_none [] = refl
 tally_none (x ∷ xs) = let h = tally_none xs in omega (arith, h)
 
-and_false : (b : Bool) → (b && false) ≡ false
-and_false true = refl
-and_false false = refl
-
-and_true : (b : Bool) → (b && true) ≡ b
-and_true true = refl
-and_true false = refl
-
 pub tally_same : {X : Type 0} (test other : X → Bool) (xs : List X) → ((x : X) → test x ≡ other x) → tally test xs ≡ tally other xs
 tally_same test other [] same = refl
 tally_same test other (x ∷ xs) same =
     ap (λ (b : Bool). cond b 1 0 + tally test xs) (same x) ∙ ap (λ n. cond (other x) 1 0 + n) (tally_same test other xs same)
 
 pub tally_and_right : {X : Type 0} (test : X → Bool) (b : Bool) (xs : List X) → tally (λ x. test x && b) xs ≡ cond b (tally test xs) 0
-tally_and_right test true xs = tally_same (λ x. test x && true) test xs (λ x. and_true (test x))
-tally_and_right test false xs = tally_same (λ x. test x && false) (λ x. false) xs (λ x. and_false (test x)) ∙ tally_none xs
+tally_and_right test true xs = tally_same (λ x. test x && true) test xs (λ x. and-true (test x))
+tally_and_right test false xs = tally_same (λ x. test x && false) (λ x. false) xs (λ x. and-false (test x)) ∙ tally_none xs
 
 pub tally_and_left : {X : Type 0} (test : X → Bool) (b : Bool) (xs : List X) → tally (λ x. b && test x) xs ≡ cond b (tally test xs) 0
 tally_and_left test true xs = refl

@@ -1,6 +1,7 @@
 -- The clause of an item is the tidy form of what its step gives, and then no literal is repeated.
 use Rattle.std.proofs.Common.{◌≡◌, ℕ, suc, ◌+◌, inl, inr, List, [], ◌∷◌, ◌++◌, length, map, refl, sym, ap, ◌∙◌, subst}
 use Rattle.std.specs.List.{AllByRecursion}
+use Rattle.cd_list.proofs.Lists.{all_weaker}
 use Rattle.cd_term.specs.declared.Term.{Term}
 use Rattle.cd_term.specs.Terms.{substituted, order_of, ranked}
 use Rattle.cd_clause.specs.declared.Atom.{Atom}
@@ -33,19 +34,15 @@ among_end : {A : Type 0} (P : A → Type 0) (xs : List A) (x : A) → P x → Am
 among_end P [] x here = inl here
 among_end P (y ∷ xs) x here = inr (among_end P xs x here)
 
-all_map : {A : Type 0} (P Q : A → Type 0) (xs : List A) → ((x : A) → P x → Q x) → AllByRecursion P xs → AllByRecursion Q xs
-all_map P Q [] f all = tt
-all_map P Q (x ∷ xs) f all = (f x all.0, all_map P Q xs f all.1)
-
 -- what is kept isn't the same as anything before
 kept_apart : (earlier ls kept : List Literal) → AreKept earlier ls kept → AllByRecursion (λ m. ¬ Among (IsSameLiteral m) earlier) kept
 kept_apart earlier [] kept are = subst (AllByRecursion (λ m. ¬ Among (IsSameLiteral m) earlier)) (sym are) tt
 kept_apart earlier (l ∷ ls) kept (inl out) =
-    all_map (λ m. ¬ Among (IsSameLiteral m) (earlier ++ l ∷ [])) (λ m. ¬ Among (IsSameLiteral m) earlier) kept
+    all_weaker (λ m. ¬ Among (IsSameLiteral m) (earlier ++ l ∷ [])) (λ m. ¬ Among (IsSameLiteral m) earlier) kept
     (λ m apart some. apart (among_left (IsSameLiteral m) earlier (l ∷ []) some)) (kept_apart (earlier ++ l ∷ []) ls kept out.1)
 kept_apart earlier (l ∷ ls) kept (inr some) =
     let rest = some.1.0 in
-    let others = all_map (λ m. ¬ Among (IsSameLiteral m) (earlier ++ l ∷ [])) (λ m. ¬ Among (IsSameLiteral m) earlier) rest
+    let others = all_weaker (λ m. ¬ Among (IsSameLiteral m) (earlier ++ l ∷ [])) (λ m. ¬ Among (IsSameLiteral m) earlier) rest
     (λ m apart one. apart (among_left (IsSameLiteral m) earlier (l ∷ []) one)) (kept_apart (earlier ++ l ∷ []) ls rest some.1.2) in
     subst (AllByRecursion (λ m. ¬ Among (IsSameLiteral m) earlier)) (sym some.1.1) ((λ one. some.0 (inr one)), others)
 
@@ -54,7 +51,7 @@ kept_pairs earlier [] kept are = subst (AllPairs (λ l m. ¬ IsSameLiteral m l))
 kept_pairs earlier (l ∷ ls) kept (inl out) = kept_pairs (earlier ++ l ∷ []) ls kept out.1
 kept_pairs earlier (l ∷ ls) kept (inr some) =
     let rest = some.1.0 in
-    let apart = all_map (λ m. ¬ Among (IsSameLiteral m) (earlier ++ l ∷ [])) (λ m. ¬ IsSameLiteral m l) rest
+    let apart = all_weaker (λ m. ¬ Among (IsSameLiteral m) (earlier ++ l ∷ [])) (λ m. ¬ IsSameLiteral m l) rest
     (λ m none same. none (among_end (IsSameLiteral m) earlier l same)) (kept_apart (earlier ++ l ∷ []) ls rest some.1.2) in
     subst (AllPairs (λ x y. ¬ IsSameLiteral y x)) (sym some.1.1) (apart, kept_pairs (earlier ++ l ∷ []) ls rest some.1.2)
 
@@ -79,7 +76,7 @@ fixed_atom h Truth is = absurd is
 fixed_atom h (Pred n args) is = ap (λ (ts : List Term). Pred n (map h ts)) is ∙ ap (Pred n) (sym is)
 fixed_atom h (Equal s t) is = absurd is
 
-fixed : (h : Term → Term) (ls : List Literal) → HaveNoTerms ls → literals_changed h ls ≡ ls
+pub fixed : (h : Term → Term) (ls : List Literal) → HaveNoTerms ls → literals_changed h ls ≡ ls
 fixed h [] all = refl
 fixed h (l ∷ ls) all =
     let here : literal_changed h l ≡ l = ap (λ (a : Atom). record { positive = l.positive; atom = a }) (fixed_atom h l.atom all.0) in

@@ -1,6 +1,6 @@
 -- Which kinds of tokens begin with which bytes, and the longest token at a place.
 use Rattle.std.proofs.Common.{◌≡◌, ◌≢◌, ◌⊎◌, ◌∙◌, ◌&&◌, ◌||◌, ◌==◌, ◌+◌, ◌<◌, ◌≤◌, ◌++◌, ◌∷◌, [], ℕ, Bool, true, false, if◌then◌else◌, nat_le, codes, length, drop, get_or, append_assoc, length-append, length-drop, refl, sym, ap, subst, arith, inl, inr, true≢false, leb-true, eqb-true}
-use Rattle.std.proofs.lemmas.Bool.{lt-leb}
+use Rattle.std.proofs.lemmas.Bool.{lt-leb, and_parts, ne_eqb}
 use Rattle.cd_lex.specs.Bytes.{Bytes, is_lower, is_upper, is_digit, is_word, is_dollar, is_plus_or_minus, is_sign, is_other}
 use Rattle.cd_lex.specs.Scans.{Ends, EndsToken, EndsQuoted, BeginsNoWord}
 use Rattle.cd_lex.specs.Tokens.{Then, Optional, One, Many, IsInteger, IsNumber, IsLower, IsDollar, IsSign, IsToken, IsAnyToken, Begins, BeginsNo, Inside, none, plain, escaped}
@@ -10,7 +10,6 @@ use Rattle.cd_lex.specs.declared.LexFault.TheVariants.{BadByte}
 use Rattle.cd_lex.specs.declared.TokenKind.{TokenKind}
 use Rattle.cd_lex.specs.declared.TokenKind.TheVariants.{Lower, Upper, Dollar, Quoted, Object, Number, Sign, Other}
 use Rattle.cd_lex.proofs.PlaceLemmas.{from_place, two_from_place}
-use Rattle.cd_lex.proofs.RunLemmas.{both}
 use Rattle.cd_lex.proofs.FormLemmas.{First, first_then}
 use Rattle.cd_lex.proofs.NumberLemmas.{among}
 
@@ -64,13 +63,6 @@ begins_number b = is_digit b || is_plus_or_minus b
 abbrev pub group : ℕ → ℕ
 group b = choice (is_lower b) (is_upper b) (is_dollar b) (b == 39) (b == 34) (begins_number b) (b == 33)
 
-pub differs : (b n : ℕ) → b ≢ n → (b == n) ≡ false
-differs b n other = by (b == n) refl
-  where
-    by : (t : Bool) → (b == n) ≡ t → t ≡ false
-    by false e = refl
-    by true e = absurd (other (eqb-true b n e))
-
 below_lower : (b : ℕ) → b < 97 → is_lower b ≡ false
 below_lower b lt = ap (λ (t : Bool). t && nat_le b 122) (lt-leb 97 b lt)
 
@@ -82,7 +74,7 @@ group_lower b is = ap (λ (t : Bool). choice t (is_upper b) (is_dollar b) (b == 
 
 group_upper : (b : ℕ) → is_upper b ≡ true → group b ≡ 1
 group_upper b is =
-    let h = leb-true b 90 (both (nat_le 65 b) (nat_le b 90) is).1 in
+    let h = leb-true b 90 (and_parts (nat_le 65 b) (nat_le b 90) is).1 in
     let low : is_lower b ≡ false = below_lower b (omega arith) in
     λ i. choice (low i) (is i) (is_dollar b) (b == 39) (b == 34) (begins_number b) (b == 33)
 
@@ -91,14 +83,14 @@ group_number b is = by (is_digit b) refl is
   where
     by : (t : Bool) → is_digit b ≡ t → (t || is_plus_or_minus b) ≡ true → group b ≡ 5
     by true e h =
-        let r = both (nat_le 48 b) (nat_le b 57) e in
+        let r = and_parts (nat_le 48 b) (nat_le b 57) e in
         let least = leb-true 48 b r.0 in
         let most = leb-true b 57 r.1 in
         let low : is_lower b ≡ false = below_lower b (omega arith) in
         let up : is_upper b ≡ false = below_upper b (omega arith) in
-        let dollar : is_dollar b ≡ false = differs b 36 (λ f. omega arith) in
-        let quote : (b == 39) ≡ false = differs b 39 (λ f. omega arith) in
-        let double : (b == 34) ≡ false = differs b 34 (λ f. omega arith) in
+        let dollar : is_dollar b ≡ false = ne_eqb b 36 (λ f. omega arith) in
+        let quote : (b == 39) ≡ false = ne_eqb b 39 (λ f. omega arith) in
+        let double : (b == 34) ≡ false = ne_eqb b 34 (λ f. omega arith) in
         λ i. choice (low i) (up i) (dollar i) (quote i) (double i) (is i) (b == 33)
     by false e h = eqb-true (group b) 5 (among (λ x. group x == 5) (codes "+-") b refl h)
 
@@ -113,7 +105,7 @@ integer_first text (s, d ∷ ds, inl bare, digits, e) = record {
   byte = d;
   rest = ds;
   is = e ∙ ap (λ (l : Bytes). l ++ d ∷ ds) bare;
-  passes = ap (λ (t : Bool). t || is_plus_or_minus d) (both (is_digit d) _ digits.1).0;
+  passes = ap (λ (t : Bool). t || is_plus_or_minus d) (and_parts (is_digit d) _ digits.1).0;
 }
 integer_first text (s, d ∷ ds, inr (c, passes, one), digits, e) = record {
   byte = c;
@@ -284,7 +276,7 @@ stray_byte bytes at lt no_gap no_word no_sign no_other no_number no_unequal =
     group_late : 5 ≤ group (get_or bytes at 0)
     group_late =
         let e : group (get_or bytes at 0) ≡ choice false false false false false (begins_number (get_or bytes at 0)) (get_or bytes at 0 == 33)
-        = λ i. choice (no_word.lower i) (no_word.upper i) (no_word.dollar i) (differs (get_or bytes at 0) 39 no_word.quote i) (differs (get_or bytes at 0) 34 no_word.double_quote i)
+        = λ i. choice (no_word.lower i) (no_word.upper i) (no_word.dollar i) (ne_eqb (get_or bytes at 0) 39 no_word.quote i) (ne_eqb (get_or bytes at 0) 34 no_word.double_quote i)
         (begins_number (get_or bytes at 0)) (get_or bytes at 0 == 33) in
         subst (λ (n : ℕ). 5 ≤ n) (sym e) (late (begins_number (get_or bytes at 0)) (get_or bytes at 0 == 33))
 

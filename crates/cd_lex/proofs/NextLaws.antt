@@ -1,5 +1,6 @@
 -- The law of `IsNext`: what comes next is single.
 use Rattle.std.proofs.Common.{◌≡◌, ◌≢◌, ◌⊎◌, ◌∙◌, ◌&&◌, ◌==◌, ◌+◌, ◌≤◌, ◌++◌, ◌∷◌, [], ℕ, Bool, true, false, if◌then◌else◌, length, take, drop, append_assoc, append-nil, length-append, take_at, refl, sym, ap, subst, arith, inl, inr, true≢false, eqb-true}
+use Rattle.std.proofs.lemmas.Bool.{ne_eqb}
 use Rattle.cd_lex.specs.Bytes.{Bytes, is_blank, is_sign, is_other}
 use Rattle.cd_lex.specs.Gaps.{BeginsNoGap, IsGapBetween, IsLastLine, IsOpenComment}
 use Rattle.cd_lex.specs.Tokens.{IsToken, IsAnyToken, Begins, BeginsNo, Inside, none, plain, escaped}
@@ -12,7 +13,7 @@ use Rattle.cd_lex.specs.declared.TokenKind.TheVariants.{Quoted, Object}
 use Rattle.cd_lex.specs.declared.quotes.InsideEnd.{InsideEnd}
 use Rattle.cd_lex.specs.declared.quotes.InsideEnd.TheVariants.{Closed, Bad, Unclosed}
 use Rattle.cd_lex.proofs.PlaceLemmas.{same_front, same_back, differ}
-use Rattle.cd_lex.proofs.KindLemmas.{code, group, same_code, Head, single, opened, head, around, differs}
+use Rattle.cd_lex.proofs.KindLemmas.{code, group, same_code, Head, single, opened, head, around}
 use Rattle.cd_lex.proofs.SingleLemmas.{Halts, halts_end, halts_line, halts_open, halts_other, place_single, kind_single}
 
 -- ---- the inside of quotes
@@ -168,7 +169,7 @@ said_quoted : (rest : Bytes) (at start : ℕ) (text after : Bytes) → start ≡
 said_quoted rest at start text after here ([], ins, some, e) split = absurd (some refl)
 said_quoted rest at start text after here (x ∷ inside, ins, some, e) split =
     let whole : 39 ∷ rest ≡ around 39 (x ∷ inside) ++ after = split ∙ ap (λ (l : Bytes). l ++ after) e in
-    let not_empty : (length (x ∷ inside) == 0) ≡ false = differs (length (x ∷ inside)) 0 (λ f. omega arith) in
+    let not_empty : (length (x ∷ inside) == 0) ≡ false = ne_eqb (length (x ∷ inside)) 0 (λ f. omega arith) in
     record {
       inside = Closed (length (x ∷ inside));
       comes = closed_at 39 (x ∷ inside) rest after ins whole;

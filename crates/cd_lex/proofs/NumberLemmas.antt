@@ -1,19 +1,19 @@
 -- Numbers and their parts.
 use Rattle.std.proofs.Common.{◌≡◌, ◌∙◌, ◌||◌, ◌==◌, ◌++◌, ◌∷◌, [], ℕ, Bool, true, false, not, codes, drop, refl, sym, ap, subst, inl, inr, true≢false, eqb-true}
 use Rattle.std.specs.List.{list_all}
+use Rattle.std.proofs.lemmas.Bool.{and_parts}
 use Rattle.cd_lex.specs.Bytes.{Bytes, is_among, is_digit, is_plus_or_minus, is_point, is_exponent_letter}
 use Rattle.cd_lex.specs.Scans.{Ends}
 use Rattle.cd_lex.specs.Tokens.{Then, Optional, BeginsNo, IsDigits, IsInteger, IsFraction, IsExponent, IsNumber}
-use Rattle.cd_lex.proofs.RunLemmas.{both}
 use Rattle.cd_lex.proofs.FormLemmas.{Joins, Apart, first_then, first_passes, then_ends, no_then}
 
 -- what holds of each byte of a list holds of one among them
 pub among : (f : ℕ → Bool) (bytes : Bytes) (b : ℕ) → list_all f bytes ≡ true → is_among bytes b ≡ true → f b ≡ true
 among f [] b all is = absurd (true≢false (sym is))
-among f (x ∷ bytes) b all is = by (x == b) refl is (among f bytes b (both (f x) (list_all f bytes) all).1)
+among f (x ∷ bytes) b all is = by (x == b) refl is (among f bytes b (and_parts (f x) (list_all f bytes) all).1)
   where
     by : (t : Bool) → (x == b) ≡ t → (t || is_among bytes b) ≡ true → (is_among bytes b ≡ true → f b ≡ true) → f b ≡ true
-    by true e h rest = ap f (sym (eqb-true x b e)) ∙ (both (f x) (list_all f bytes) all).0
+    by true e h rest = ap f (sym (eqb-true x b e)) ∙ (and_parts (f x) (list_all f bytes) all).0
     by false e h rest = rest h
 
 -- the test fails of a byte among others
@@ -22,11 +22,11 @@ not_among f bytes b none is passes = true≢false (sym (among (λ x. not (f x)) 
 
 -- what holds of all bytes holds of one in their middle
 pub all_middle : (f : ℕ → Bool) (front more : Bytes) (b : ℕ) → list_all f (front ++ b ∷ more) ≡ true → f b ≡ true
-all_middle f [] more b all = (both (f b) (list_all f more) all).0
-all_middle f (x ∷ front) more b all = all_middle f front more b (both (f x) (list_all f (front ++ b ∷ more)) all).1
+all_middle f [] more b all = (and_parts (f b) (list_all f more) all).0
+all_middle f (x ∷ front) more b all = all_middle f front more b (and_parts (f x) (list_all f (front ++ b ∷ more)) all).1
 
 pub first_digit : (b : ℕ) (text : Bytes) → IsDigits (b ∷ text) → is_digit b ≡ true
-first_digit b text is = (both (is_digit b) (list_all is_digit text) is.1).0
+first_digit b text is = (and_parts (is_digit b) (list_all is_digit text) is.1).0
 
 -- a sign is no digit
 pub sign_apart : Apart is_plus_or_minus IsDigits
@@ -42,7 +42,7 @@ pub record Tailed (text : Bytes) : Type 0 where
 integer_tail : (text : Bytes) → IsInteger text → Tailed text
 integer_tail text (s, [], sign, digits, e) = absurd (digits.0 refl)
 integer_tail text (s, d ∷ ds, inl none, digits, e) =
-    record { byte = d; digits = ds; is = e ∙ ap (λ (l : Bytes). l ++ d ∷ ds) none; all = (both (is_digit d) (list_all is_digit ds) digits.1).1 }
+    record { byte = d; digits = ds; is = e ∙ ap (λ (l : Bytes). l ++ d ∷ ds) none; all = (and_parts (is_digit d) (list_all is_digit ds) digits.1).1 }
 integer_tail text (s, d ∷ ds, inr (c, passes, one), digits, e) =
     record { byte = c; digits = d ∷ ds; is = e ∙ ap (λ (l : Bytes). l ++ d ∷ ds) one; all = digits.1 }
 

@@ -1,17 +1,11 @@
 -- Runs of bytes that pass a test.
-use Rattle.std.proofs.Common.{◌≡◌, ◌≢◌, ◌∙◌, ◌&&◌, ◌+◌, ◌<◌, ◌≤◌, ◌++◌, ◌∷◌, [], ℕ, Bool, true, false, length, drop, get_or, refl, sym, ap, subst, arith, true≢false}
+use Rattle.std.proofs.Common.{◌≡◌, ◌≢◌, ◌∙◌, ◌+◌, ◌<◌, ◌≤◌, ◌++◌, ◌∷◌, [], ℕ, Bool, true, false, length, drop, get_or, refl, sym, ap, subst, arith, true≢false}
 use Rattle.std.specs.List.{list_all}
+use Rattle.std.proofs.lemmas.Bool.{and_parts, and_from}
 use Rattle.cd_lex.specs.Bytes.{Bytes}
 use Rattle.cd_lex.specs.Scans.{Stops, EndsRun, Ends}
 use Rattle.cd_lex.specs.Tokens.{Many, AtLeastOne, BeginsNo}
 use Rattle.cd_lex.proofs.PlaceLemmas.{from_place, past_end}
-
-pub both : (a b : Bool) → (a && b) ≡ true → (a ≡ true) × (b ≡ true)
-both true b e = (refl, e)
-both false b e = absurd (true≢false (sym e))
-
-pub and_true : (a b : Bool) → a ≡ true → b ≡ true → (a && b) ≡ true
-and_true a b x y = ap (λ (t : Bool). t && b) x ∙ y
 
 pub run_here : (test : ℕ → Bool) (bytes : Bytes) (at : ℕ) → Stops test (drop at bytes) → EndsRun test (drop at bytes) at at
 run_here test bytes at stops = record { run = []; rest = drop at bytes; pass = refl; stops = stops; split = refl; place = omega arith }
@@ -26,7 +20,7 @@ pub run_more : (test : ℕ → Bool) (bytes : Bytes) (at e : ℕ) → at < lengt
 run_more test bytes at e lt passes r = record {
   run = get_or bytes at 0 ∷ r.run;
   rest = r.rest;
-  pass = and_true (test (get_or bytes at 0)) (list_all test r.run) passes r.pass;
+  pass = and_from (test (get_or bytes at 0)) (list_all test r.run) passes r.pass;
   stops = r.stops;
   split = from_place bytes at lt ∙ ap (λ (l : Bytes). get_or bytes at 0 ∷ l) r.split;
   place = omega (arith, r.place);
@@ -38,10 +32,10 @@ run_longest test run rest [] r stops pass e = omega arith
 run_longest test [] [] (x ∷ xs) r stops pass e = let bad : [] ≡ x ∷ (xs ++ r) = e in absurd (cc)
 run_longest test [] (y ∷ rest) (x ∷ xs) r stops pass e =
     let same : y ≡ x = cc in
-    absurd (true≢false (sym (both (test x) (list_all test xs) pass).0 ∙ ap test (sym same) ∙ stops))
+    absurd (true≢false (sym (and_parts (test x) (list_all test xs) pass).0 ∙ ap test (sym same) ∙ stops))
 run_longest test (y ∷ run) rest (x ∷ xs) r stops pass e =
     let tails : run ++ rest ≡ xs ++ r = cc in
-    let more : length xs ≤ length run = run_longest test run rest xs r stops (both (test x) (list_all test xs) pass).1 tails in omega arith
+    let more : length xs ≤ length run = run_longest test run rest xs r stops (and_parts (test x) (list_all test xs) pass).1 tails in omega arith
 
 -- a run that isn't empty, as a form
 pub run_form : (test : ℕ → Bool) (bytes : Bytes) (from end : ℕ) → EndsRun test bytes from end → end ≢ from → Ends (AtLeastOne test) bytes from end

@@ -1,7 +1,7 @@
 -- The names of the one peer are their places.
-use Rattle.std.proofs.Common.{◌≡◌, ℕ, zero, suc, ◌+◌, ◌<◌, ◌==◌, Bool, true, false, ◌&&◌, cond, List, [], ◌∷◌, ◌++◌, Some, slice_get, refl, sym, ap, ◌∙◌, subst, arith}
+use Rattle.std.proofs.Common.{◌≡◌, ℕ, zero, suc, ◌+◌, Bool, true, false, cond, List, [], ◌∷◌, ◌++◌, Some, slice_get, refl, sym, ap, ◌∙◌, subst, arith}
 use Rattle.std.specs.List.{find}
-use Rattle.std.proofs.lemmas.Bool.Decides.{nat_tests}
+use Rattle.cd_ledger.proofs.NameLemmas.{same_name, other_name}
 use Rattle.cd_names.specs.declared.names.Name.{Name}
 use Rattle.cd_ledger.specs.declared.Known.{Known}
 use Rattle.cd_ledger.specs.Names.{name_eq, each_once, add_once, look}
@@ -11,23 +11,6 @@ use Rattle.cd_peer.specs.Ready.{AreNumbered}
 pub each_once-append : (seen ns ms : List Name) → each_once seen (ns ++ ms) ≡ each_once (each_once seen ns) ms
 each_once-append seen [] ms = refl
 each_once-append seen (n ∷ ns) ms = each_once-append (add_once seen n) ns ms
-
-same_number : (n : ℕ) → (n == n) ≡ true
-same_number n = grind (arith, nat_tests)
-
-pub same_name : (n : Name) → name_eq n n ≡ true
-same_name n = ap (λ (b : Bool). b && (n.seq == n.seq)) (same_number n.peer) ∙ same_number n.seq
-
-other_number : (m n : ℕ) → m < n → (m == n) ≡ false
-other_number m n h = grind (arith, nat_tests)
-
-last_false : (b c : Bool) → c ≡ false → (b && c) ≡ false
-last_false true c h = h
-last_false false c h = refl
-
--- a name behind another place is another name
-earlier_name : (a b : Name) → a.seq < b.seq → name_eq a b ≡ false
-earlier_name a b h = last_false (a.peer == b.peer) (a.seq == b.seq) (other_number a.seq b.seq h)
 
 numbered : ℕ → ℕ → List Known → Type 0
 numbered me first xs = (k : ℕ) (x : Known) → slice_get xs k ≡ Some x → x.entry.name ≡ record { peer = me; seq = first + k }
@@ -50,7 +33,7 @@ look_from me first (y ∷ ys) (suc k) x n all there is =
     let name : y.entry.name ≡ record { peer = me; seq = first + 0 } = all 0 y refl in
     let seq : y.entry.name.seq ≡ first + 0 = ap (λ (m : Name). m.seq) name in
     let other : n.seq ≡ first + suc k = ap (λ (m : Name). m.seq) is in
-    let test : name_eq y.entry.name n ≡ false = earlier_name y.entry.name n (omega arith) in
+    let test : name_eq y.entry.name n ≡ false = other_name y.entry.name n (λ e. omega (arith, seq, other, e)) in
     let e : first + suc k ≡ first + 1 + k = omega arith in
     ap (λ (b : Bool). cond b (Some y) (find (λ z. name_eq z.entry.name n) ys)) test
     ∙ look_from me (first + 1) ys k x n (numbered_rest me first y ys all) there (is ∙ ap (λ (m : ℕ). record { peer = me; seq = m }) e)

@@ -21,7 +21,7 @@ use Rattle.cd_ledger.specs.declared.Task.{Task}
 use Rattle.cd_ledger.specs.declared.Task.TheVariants.{Solo, Pair}
 use Rattle.cd_ledger.specs.Lean.{IsCandidate, IsUsable}
 use Rattle.cd_ledger.specs.Machine.{IsStart, tasks_of, name_of, next_name, recorded_item, dropped, kept, Yield, IsYield, worked, Found, Fits, acted, after, LocalStep}
-use Rattle.cd_ledger.proofs.Lists.{all_append, all_remove, all_weaker, all_get, length_remove, push_get}
+use Rattle.cd_list.proofs.Lists.{all_append, all_remove, all_weaker, all_get, length_remove, push_get}
 use Rattle.cd_ledger.proofs.TidyItems.{item_candidate, task_items_all, task_items_length, input_items_all, input_items_length}
 use Rattle.cd_ledger.proofs.LeanLemmas.{lean}
 use Rattle.cd_ledger.proofs.FewLemmas.{concluded_few, concluded_propositional}

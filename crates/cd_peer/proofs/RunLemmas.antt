@@ -13,7 +13,7 @@ use Rattle.cd_ledger.specs.declared.Verdict.{Verdict}
 use Rattle.cd_ledger.specs.declared.Verdict.TheVariants.{Refuted, Saturated, Spent}
 use Rattle.cd_ledger.specs.Machine.{IsStart, waiting, is_empty, kept, recorded_item, Found, Fits, acted, after, LocalStep, IsTurn, sent, first_act, first_of}
 use Rattle.cd_ledger.specs.World.{World, Run, Runs, WorldStep, Moves, has_empty, work_of, work_count, EndsWith}
-use Rattle.cd_ledger.proofs.Lists.{length_remove}
+use Rattle.cd_list.proofs.Lists.{length_remove}
 use Rattle.cd_ledger.proofs.Empty.{has_empty-push}
 use Rattle.cd_peer.specs.Finished.{alone, VerdictSays, IsReached, IsSettled, open_count}
 

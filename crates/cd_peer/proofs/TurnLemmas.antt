@@ -1,8 +1,8 @@
 -- What a turn gives is the first event's step.
-use Rattle.std.proofs.Common.{◌≡◌, ℕ, zero, suc, ◌+◌, ◌<◌, ◌≤◌, nat_le, Bool, false, List, [], ◌∷◌, ◌++◌, length, remove, take, drop, get_or, None, Some, slice_get, refl, sym, ap, ◌∙◌, subst, arith, append_assoc, append-nil}
+use Rattle.std.proofs.Common.{◌≡◌, ℕ, zero, suc, ◌+◌, ◌<◌, ◌≤◌, nat_le, Bool, List, [], ◌∷◌, ◌++◌, length, remove, take, drop, get_or, None, Some, slice_get, refl, sym, ap, ◌∙◌, subst, arith, append_assoc, append-nil}
 use Rattle.std.specs.List.{AllByRecursion}
-use Rattle.std.proofs.lemmas.Bool.Decides.{nat_tests}
 use Rattle.std.proofs.lemmas.List.{take_more, take_all, length-take}
+use Rattle.std.proofs.lemmas.Bool.{lt-leb}
 use Rattle.cd_clause.specs.declared.Clause.{Clause}
 use Rattle.cd_names.specs.declared.names.Name.{Name}
 use Rattle.cd_steps.specs.declared.Step.TheVariants.{Input}
@@ -18,7 +18,7 @@ use Rattle.cd_ledger.specs.declared.Task.{Task}
 use Rattle.cd_ledger.specs.declared.Local.{Local}
 use Rattle.cd_ledger.specs.Machine.{IsItemOf, AreInputItems, AreTaskItems, IsSubsumer, IsFirstSubsumer, OutcomeFits, KeepsFirst, WorksFirst, IsTurn, next_event, stamped, settlement, dropped, kept, after, tick, first_of}
 use Rattle.cd_ledger.specs.Lean.{IsUsable}
-use Rattle.cd_ledger.proofs.Lists.{all_append, all_get}
+use Rattle.cd_list.proofs.Lists.{all_append, all_get}
 use Rattle.cd_ledger.proofs.LeanLemmas.{lean_short}
 use Rattle.cd_peer.specs.Ready.{AddsItems, named}
 
@@ -113,9 +113,6 @@ keep_turn s next running k = record {
     kept_journal : (s : Local) (item : Item) (o : Outcome) → (after s (next_event s (Keep 0)) (item, o)).journal ≡ s.journal ++ next_event s (Keep 0) ∷ []
     kept_journal s item o = refl
 
-below : (m n : ℕ) → n < m → nat_le m n ≡ false
-below m n h = grind (arith, nat_tests)
-
 nothing : {A : Type 0} (xs : List A) → length xs ≤ 0 → xs ≡ []
 nothing [] h = refl
 nothing (x ∷ xs) h = absurd (omega arith)
@@ -125,7 +122,7 @@ work_turn s next running none less w = record {
   event = next_event s (Work w.task);
   first = sym (ap (λ (is : List Item). first_of is s.owed (nat_le s.limits.steps s.units)) none
       ∙ ap (λ (ts : List Task). first_of [] ts (nat_le s.limits.steps s.units)) w.owed
-      ∙ ap (λ (b : Bool). first_of [] (w.task ∷ w.others) b) (below s.limits.steps s.units less));
+      ∙ ap (λ (b : Bool). first_of [] (w.task ∷ w.others) b) (lt-leb s.limits.steps s.units less));
   step = record {
     found = record { others = w.others; found = w.found; items = w.items };
     legal = record {

@@ -5,25 +5,24 @@ use Rattle.std.proofs.Math.Seq.{take-append_seam, drop-append_seam}
 use Rattle.std.proofs.lemmas.Bool.Decides.{nat_tests}
 use Rattle.std.proofs.lemmas.List.{length-append}
 use Rattle.std.proofs.lemmas.List.Concat.{flat_map-cons}
+use Rattle.std.proofs.lemmas.Bool.{and_parts}
+use Rattle.cd_list.proofs.Numbers.{equal_itself}
 use Rattle.cd_read.specs.declared.statement.Statement.{Statement}
 use Rattle.cd_read.specs.declared.statement.SignedWord.{SignedWord}
 use Rattle.cd_read.specs.Words.{is_lower, is_word_byte, is_word}
 use Rattle.cd_read.specs.Files.{literal_spelling, further_spelling, literals_spelling, spelling, IsSpelled}
 use Rattle.cd_read.specs.Scanned.{stripped, run_length, word_found, signed_found, literal_found, further_found, joined_found, literals_found, statement_found, statements_found}
-use Rattle.cd_read.proofs.WordsLemmas.{both, word_all, Stops, run_ends}
-use Rattle.cd_read.proofs.FoundLemmas.{AreWords}
-
-same : (b : ℕ) → (b == b) ≡ true
-same b = grind (arith, nat_tests)
+use Rattle.cd_read.proofs.WordsLemmas.{word_all, Stops, run_ends}
+use Rattle.cd_read.proofs.FoundLemmas.{AreWords, regroup}
 
 pub stripped_again : (front rest : List ℕ) → stripped front (front ++ rest) ≡ Some rest
 stripped_again [] rest = refl
-stripped_again (p ∷ ps) rest = ap (λ (t : Bool). cond t (stripped ps (ps ++ rest)) None) (same p) ∙ stripped_again ps rest
+stripped_again (p ∷ ps) rest = ap (λ (t : Bool). cond t (stripped ps (ps ++ rest)) None) (equal_itself p) ∙ stripped_again ps rest
 
 pub word_again : (w rest : List ℕ) → IsTrue (is_word w) → Stops rest → word_found (w ++ rest) ≡ Some (w, rest)
 word_again [] rest h stops = absurd cc
 word_again (b ∷ bs) rest h stops =
-    let lower = (both (is_lower b) (list_all is_word_byte bs) h).0 in
+    let lower = (and_parts (is_lower b) (list_all is_word_byte bs) h).0 in
     let w : List ℕ = b ∷ bs in
     let n = run_length (w ++ rest) in
     let run : n ≡ length w = run_ends w rest (word_all w h) stops in
@@ -39,7 +38,7 @@ lower_no_tilde b h = grind (arith, nat_tests)
 
 word_no_tilde : (w rest : List ℕ) → IsTrue (is_word w) → stripped (codes "~") (w ++ rest) ≡ None
 word_no_tilde [] rest h = absurd cc
-word_no_tilde (b ∷ bs) rest h = ap (λ (t : Bool). cond t (Some (bs ++ rest)) None) (lower_no_tilde b (both (is_lower b) (list_all is_word_byte bs) h).0)
+word_no_tilde (b ∷ bs) rest h = ap (λ (t : Bool). cond t (Some (bs ++ rest)) None) (lower_no_tilde b (and_parts (is_lower b) (list_all is_word_byte bs) h).0)
 
 literal_by : (sign : Bool) (w rest : List ℕ) → IsTrue (is_word w) → Stops rest → literal_found ((cond sign [] (codes "~") ++ w) ++ rest) ≡ Some (record { positive = sign; word = w }, rest)
 unfolding literal_found
@@ -90,9 +89,6 @@ literals_again (l ∷ ls) rest words some =
     let others : further_found (codes " | ") literal_found n behind ≡ Some (ls, closing rest) = further_again n ls rest words.1 long in
     let here : joined_found (codes " | ") literal_found (literal_spelling l ++ behind) ≡ Some (l ∷ ls, closing rest) = rw (first, others) refl in
     ap (joined_found (codes " | ") literal_found) text ∙ here
-
-regroup : (front label between literals back rest : List ℕ) → (front ++ (label ++ (between ++ (literals ++ back)))) ++ rest ≡ front ++ (label ++ (between ++ (literals ++ (back ++ rest))))
-regroup front label between literals back rest = simp append_assoc
 
 pub statement_again : (s : Statement) (rest : List ℕ) → IsSpelled s → statement_found (spelling s ++ rest) ≡ Some (s, rest)
 unfolding statement_found

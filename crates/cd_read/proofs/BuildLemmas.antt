@@ -1,7 +1,9 @@
 -- Building a problem statement by statement, and that what is built is formed.
-use Rattle.std.proofs.Common.{◌≡◌, ℕ, zero, suc, ◌+◌, ◌<◌, ◌≤◌, List, [], ◌∷◌, ◌++◌, length, Some, slice_get, inl, inr, refl, sym, ap, ◌∙◌, subst, arith, append_assoc, append-nil}
+use Rattle.std.proofs.Common.{◌≡◌, ℕ, suc, ◌+◌, ◌<◌, ◌≤◌, List, [], ◌∷◌, ◌++◌, length, Some, slice_get, inl, inr, refl, sym, ap, ◌∙◌, subst, arith, append_assoc, append-nil}
 use Rattle.std.specs.List.{AllByRecursion}
 use Rattle.std.proofs.lemmas.List.{length-append}
+use Rattle.std.proofs.lemmas.Option.{slice_get_within}
+use Rattle.cd_list.proofs.Lists.{get_left, get_at}
 use Rattle.cd_clause.specs.declared.Atom.{Atom}
 use Rattle.cd_clause.specs.declared.Atom.TheVariants.{Truth, Pred, Equal}
 use Rattle.cd_clause.specs.declared.Literal.{Literal}
@@ -59,15 +61,6 @@ inputs_end path start before all rest so_far is gives =
 -- the symbols that stand before stand after
 Grows : List Symbol → List Symbol → Type 0
 Grows before after = (n : ℕ) (s : Symbol) → slice_get before n ≡ Some s → slice_get after n ≡ Some s
-
-get_left : {A : Type 0} (xs ys : List A) (k : ℕ) (x : A) → slice_get xs k ≡ Some x → slice_get (xs ++ ys) k ≡ Some x
-get_left [] ys k x there = absurd cc
-get_left (y ∷ xs) ys zero x there = there
-get_left (y ∷ xs) ys (suc k) x there = get_left xs ys k x there
-
-get_at : {A : Type 0} (xs ys : List A) (x : A) → slice_get (xs ++ x ∷ ys) (length xs) ≡ Some x
-get_at [] ys x = refl
-get_at (y ∷ xs) ys x = get_at xs ys x
 
 interned_grows : (old new : List Symbol) (s : Symbol) (n : ℕ) → Interns old new s n → Grows old new
 unfolding Grows
@@ -140,15 +133,10 @@ nothing_left (x ∷ xs) h = absurd (omega arith)
 
 -- ---- what is formed is propositional
 
-get_within : {A : Type 0} (xs : List A) (n : ℕ) (x : A) → slice_get xs n ≡ Some x → n < length xs
-get_within [] n x there = absurd cc
-get_within (y ∷ xs) zero x there = omega arith
-get_within (y ∷ xs) (suc n) x there = let others = get_within xs n x there in omega (arith, others)
-
 atom_propositional : (symbols : List Symbol) (a : Atom) → length symbols ≤ 32768 → AtomFormed symbols a → IsPropositionalAtom a
 atom_propositional symbols Truth few formed = absurd formed
 atom_propositional symbols (Pred n args) few formed =
-    let within : n < length symbols = get_within symbols n formed.0 formed.1 in
+    let within : n < length symbols = slice_get_within symbols n formed.0 formed.1 in
     (omega (arith, within, few), formed.4)
 atom_propositional symbols (Equal s t) few formed = absurd formed
 

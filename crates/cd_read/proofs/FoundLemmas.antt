@@ -1,15 +1,15 @@
 -- What is found at the front of a text is spelled there.
 use Rattle.std.proofs.Common.{◌≡◌, ℕ, zero, suc, ◌<◌, ◌==◌, Bool, true, false, cond, List, [], ◌∷◌, ◌++◌, length, take, drop, codes, Option, Some, None, IsTrue, refl, sym, ap, ◌∙◌, subst, arith, append_assoc}
 use Rattle.std.specs.List.{list_all, flat_map, AllByRecursion}
-use Rattle.std.proofs.lemmas.Bool.Decides.{nat_tests}
 use Rattle.std.proofs.lemmas.List.{take-append-drop}
 use Rattle.std.proofs.lemmas.List.Concat.{flat_map-cons}
+use Rattle.std.proofs.lemmas.Bool.{and_from, eqb-true}
 use Rattle.cd_read.specs.declared.statement.Statement.{Statement}
 use Rattle.cd_read.specs.declared.statement.SignedWord.{SignedWord}
 use Rattle.cd_read.specs.Words.{is_lower, is_word_byte, is_word}
 use Rattle.cd_read.specs.Files.{literal_spelling, further_spelling, literals_spelling, spelling, IsSpelled}
 use Rattle.cd_read.specs.Scanned.{◌>>=◌, stripped, run_length, word_found, signed_found, behind_sign, literal_found, further_found, literals_found, statement_found, statements_found}
-use Rattle.cd_read.proofs.WordsLemmas.{joined, lower_is_word_byte, run_all}
+use Rattle.cd_read.proofs.WordsLemmas.{lower_is_word_byte, run_all}
 
 -- what a chain of two gives, both gave
 pub bound : {A B : Type 0} (o : Option A) (f : A → Option B) (y : B) → (o >>= f) ≡ Some y → (x : A) × (o ≡ Some x) × (f x ≡ Some y)
@@ -19,11 +19,8 @@ bound None f y h = absurd cc
 pub some_is : {A : Type 0} (x y : A) → Some x ≡ Some y → x ≡ y
 some_is x y h = cc
 
-same_byte : (b p : ℕ) → (b == p) ≡ true → b ≡ p
-same_byte b p h = grind (arith, nat_tests)
-
 stripped_by : (p b : ℕ) (ps bs rest : List ℕ) (t : Bool) → (b == p) ≡ t → (stripped ps bs ≡ Some rest → bs ≡ ps ++ rest) → cond t (stripped ps bs) None ≡ Some rest → b ∷ bs ≡ p ∷ (ps ++ rest)
-stripped_by p b ps bs rest true e others h = ap (λ (x : ℕ). x ∷ bs) (same_byte b p e) ∙ ap (λ (l : List ℕ). p ∷ l) (others h)
+stripped_by p b ps bs rest true e others h = ap (λ (x : ℕ). x ∷ bs) (eqb-true b p e) ∙ ap (λ (l : List ℕ). p ∷ l) (others h)
 stripped_by p b ps bs rest false e others h = absurd cc
 
 pub stripped_is : (front text rest : List ℕ) → stripped front text ≡ Some rest → text ≡ front ++ rest
@@ -50,7 +47,7 @@ word_by b bs w r true lower all h =
     let rest : drop n bs ≡ r = ap (λ (x : List ℕ × List ℕ). x.1) pair in
     record {
       split = sym (ap (λ (l : List ℕ). b ∷ l) (take-append-drop n bs)) ∙ ap (λ (l : List ℕ). l ++ drop n bs) word ∙ ap (λ (l : List ℕ). w ++ l) rest;
-      is_one = subst (λ (l : List ℕ). IsTrue (is_word l)) word (joined (is_lower b) (list_all is_word_byte (take n bs)) lower all);
+      is_one = subst (λ (l : List ℕ). IsTrue (is_word l)) word (and_from (is_lower b) (list_all is_word_byte (take n bs)) lower all);
     }
 word_by b bs w r false lower all h = absurd cc
 
@@ -154,7 +151,7 @@ pub record StatementAt (text : List ℕ) (s : Statement) (rest : List ℕ) : Typ
   pub split : text ≡ spelling s ++ rest
   pub spelled : IsSpelled s
 
-regroup : (front label between literals back rest : List ℕ) → (front ++ (label ++ (between ++ (literals ++ back)))) ++ rest ≡ front ++ (label ++ (between ++ (literals ++ (back ++ rest))))
+pub regroup : (front label between literals back rest : List ℕ) → (front ++ (label ++ (between ++ (literals ++ back)))) ++ rest ≡ front ++ (label ++ (between ++ (literals ++ (back ++ rest))))
 regroup front label between literals back rest = simp append_assoc
 
 pub statement_is : (text : List ℕ) (s : Statement) (r : List ℕ) → statement_found text ≡ Some (s, r) → StatementAt text s r

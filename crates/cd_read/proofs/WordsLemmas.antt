@@ -1,17 +1,11 @@
 -- What is known of words: they are ASCII, and a run of word bytes is one.
-use Rattle.std.proofs.Common.{◌≡◌, ℕ, zero, suc, ◌<◌, Bool, true, false, ◌&&◌, cond, List, [], ◌∷◌, ◌++◌, length, take, refl, ap, ◌∙◌, arith}
+use Rattle.std.proofs.Common.{◌≡◌, ℕ, zero, suc, ◌<◌, Bool, true, false, cond, List, [], ◌∷◌, ◌++◌, length, take, refl, ap, ◌∙◌, arith}
 use Rattle.std.specs.List.{list_all}
 use Rattle.std.specs.Str.{IsAscii}
 use Rattle.std.proofs.lemmas.Bool.Decides.{nat_tests}
+use Rattle.std.proofs.lemmas.Bool.{and_parts, and_from}
 use Rattle.cd_read.specs.Words.{is_lower, is_word_byte, is_word}
 use Rattle.cd_read.specs.Scanned.{run_length}
-
-pub both : (a b : Bool) → (a && b) ≡ true → (a ≡ true) × (b ≡ true)
-both true b h = (refl, h)
-both false b h = absurd cc
-
-pub joined : (a b : Bool) → a ≡ true → b ≡ true → (a && b) ≡ true
-joined a b p q = ap (λ (x : Bool). x && b) p ∙ q
 
 byte_small : (b : ℕ) → is_word_byte b ≡ true → b < 128
 byte_small b h = grind (arith, nat_tests)
@@ -22,12 +16,12 @@ lower_is_word_byte b h = grind (arith, nat_tests)
 -- word bytes are ASCII
 pub word_ascii : (w : List ℕ) → list_all is_word_byte w ≡ true → IsAscii w
 word_ascii [] h i = omega arith
-word_ascii (b ∷ bs) h zero = byte_small b (both (is_word_byte b) (list_all is_word_byte bs) h).0
-word_ascii (b ∷ bs) h (suc i) = word_ascii bs (both (is_word_byte b) (list_all is_word_byte bs) h).1 i
+word_ascii (b ∷ bs) h zero = byte_small b (and_parts (is_word_byte b) (list_all is_word_byte bs) h).0
+word_ascii (b ∷ bs) h (suc i) = word_ascii bs (and_parts (is_word_byte b) (list_all is_word_byte bs) h).1 i
 
 run_by : (t : Bool) (b : ℕ) (bs : List ℕ) → is_word_byte b ≡ t → list_all is_word_byte (take (run_length bs) bs) ≡ true
     → list_all is_word_byte (take (cond t (suc (run_length bs)) 0) (b ∷ bs)) ≡ true
-run_by true b bs h others = joined (is_word_byte b) (list_all is_word_byte (take (run_length bs) bs)) h others
+run_by true b bs h others = and_from (is_word_byte b) (list_all is_word_byte (take (run_length bs) bs)) h others
 run_by false b bs h others = refl
 
 -- the run at the front of a text consists of word bytes
@@ -38,7 +32,7 @@ run_all (b ∷ bs) = run_by (is_word_byte b) b bs refl (run_all bs)
 -- a word consists of word bytes
 pub word_all : (w : List ℕ) → is_word w ≡ true → list_all is_word_byte w ≡ true
 word_all [] h = absurd cc
-word_all (b ∷ bs) h = let p = both (is_lower b) (list_all is_word_byte bs) h in joined (is_word_byte b) (list_all is_word_byte bs) (lower_is_word_byte b p.0) p.1
+word_all (b ∷ bs) h = let p = and_parts (is_lower b) (list_all is_word_byte bs) h in and_from (is_word_byte b) (list_all is_word_byte bs) (lower_is_word_byte b p.0) p.1
 
 -- what can stand behind a word: nothing, or a byte that continues no word
 abbrev pub Stops : List ℕ → Type 0
@@ -49,5 +43,5 @@ pub run_ends : (w rest : List ℕ) → list_all is_word_byte w ≡ true → Stop
 run_ends [] [] h stops = refl
 run_ends [] (b ∷ bs) h stops = ap (λ (t : Bool). cond t (suc (run_length bs)) 0) stops
 run_ends (b ∷ bs) rest h stops =
-    let p = both (is_word_byte b) (list_all is_word_byte bs) h in
+    let p = and_parts (is_word_byte b) (list_all is_word_byte bs) h in
     ap (λ (t : Bool). cond t (suc (run_length (bs ++ rest))) 0) p.0 ∙ ap suc (run_ends bs rest p.1 stops)

@@ -1,23 +1,13 @@
 -- Right steps are sound.
-use Rattle.std.proofs.Common.{◌≡◌, ◌⊎◌, inl, inr, ℕ, zero, suc, Bool, true, false, ◌||◌, not, List, [], ◌∷◌, ◌++◌, remove, slice_get, Option, None, Some, refl, ap, ◌∙◌, subst}
+use Rattle.std.proofs.Common.{◌≡◌, ◌⊎◌, inl, inr, ℕ, zero, suc, Bool, true, false, not, List, [], ◌∷◌, ◌++◌, remove, slice_get, Option, None, Some, ap, ◌∙◌, subst}
 use Rattle.std.specs.List.{list_any}
 use Rattle.std.proofs.lemmas.List.Folds.{list_any-append}
+use Rattle.std.proofs.lemmas.Bool.{or_cases, or_left, or_right}
 use Rattle.cd_clause.specs.declared.Clause.{Clause}
 use Rattle.cd_clause.specs.Truth.{Interp, IsInterp, Point, Holds, atom_true, literal_true}
 use Rattle.cd_clause.proofs.TidyLemmas.{tidy_holds}
 use Rattle.cd_steps.specs.declared.Step.TheVariants.{Input, Resolve, Tidy}
 use Rattle.cd_steps.specs.Steps.{Resolves, TidiesIfAny, HoldsIfAny, StepsAreSound}
-
-pub either : (a b : Bool) → (a || b) ≡ true → (a ≡ true) ⊎ (b ≡ true)
-either true b h = inl refl
-either false b h = inr h
-
-pub left_true : (a b : Bool) → a ≡ true → (a || b) ≡ true
-left_true a b h = ap (λ (x : Bool). x || b) h
-
-pub right_true : (a b : Bool) → b ≡ true → (a || b) ≡ true
-right_true true b h = refl
-right_true false b h = h
 
 -- a test that some item passes is passed by the item in place k, or by another
 pub any_at : {X : Type 0} (test : X → Bool) (xs : List X) (k : ℕ) (x : X) → slice_get xs k ≡ Some x → list_any test xs ≡ true
@@ -25,21 +15,21 @@ pub any_at : {X : Type 0} (test : X → Bool) (xs : List X) (k : ℕ) (x : X) �
 any_at test [] k x there any = absurd cc
 any_at test (y ∷ xs) zero x there any =
     let e : y ≡ x = cc in
-    subst (λ z. (test z ≡ true) ⊎ (list_any test xs ≡ true)) e (either (test y) (list_any test xs) any)
+    subst (λ z. (test z ≡ true) ⊎ (list_any test xs ≡ true)) e (or_cases (test y) (list_any test xs) any)
 any_at test (y ∷ xs) (suc k) x there any =
-    elim (either (test y) (list_any test xs) any) [
-      | inl here ↦ inr (left_true (test y) (list_any test (remove xs k)) here)
+    elim (or_cases (test y) (list_any test xs) any) [
+      | inl here ↦ inr (or_left (test y) (list_any test (remove xs k)) here)
       | inr later ↦ elim (any_at test xs k x there later) [
         | inl at ↦ inl at
-        | inr other ↦ inr (right_true (test y) (list_any test (remove xs k)) other)
+        | inr other ↦ inr (or_right (test y) (list_any test (remove xs k)) other)
       ]
     ]
 
 pub any_left : {X : Type 0} (test : X → Bool) (xs ys : List X) → list_any test xs ≡ true → list_any test (xs ++ ys) ≡ true
-any_left test xs ys h = list_any-append test xs ys ∙ left_true (list_any test xs) (list_any test ys) h
+any_left test xs ys h = list_any-append test xs ys ∙ or_left (list_any test xs) (list_any test ys) h
 
 pub any_right : {X : Type 0} (test : X → Bool) (xs ys : List X) → list_any test ys ≡ true → list_any test (xs ++ ys) ≡ true
-any_right test xs ys h = list_any-append test xs ys ∙ right_true (list_any test xs) (list_any test ys) h
+any_right test xs ys h = list_any-append test xs ys ∙ or_right (list_any test xs) (list_any test ys) h
 
 not_both : (b : Bool) → b ≡ true → not b ≡ true → ⊥
 not_both true h k = cc

@@ -1,6 +1,7 @@
 -- Equality of keys.
-use Rattle.std.proofs.Common.{◌≡◌, ℕ, Bool, true, false, ◌&&◌, ◌==◌, ◌∙◌, refl, sym, ap, true≢false, eqb-true, eq-eqb}
+use Rattle.std.proofs.Common.{◌≡◌, ℕ, true, false, ◌&&◌, ◌==◌, ◌∙◌, refl, sym, ap, true≢false, eqb-true, eq-eqb}
 use Rattle.std.specs.Bool.{Decides}
+use Rattle.std.proofs.lemmas.Bool.{and_parts}
 use Rattle.cd_symbols.specs.declared.Kind.{Kind}
 use Rattle.cd_symbols.specs.declared.Kind.TheVariants.{Function, Predicate}
 use Rattle.cd_symbols.specs.declared.Key.{Key}
@@ -9,26 +10,22 @@ use Rattle.cd_symbols.specs.contracts.KeyPartialEq.TheImpl.{eq-value}
 abbrev made : ℕ → ℕ → Kind → Key
 made text arity kind = record { text = text; arity = arity; kind = kind }
 
-both : (a b : Bool) → (a && b) ≡ true → (a ≡ true) × (b ≡ true)
-both true b e = (refl, e)
-both false b e = absurd (true≢false (sym e))
-
 -- keys of which the test says that they are equal, by their kinds
 parts : (t n u m : ℕ) (j k : Kind) → eq-value.it (made t n j) (made u m k) ≡ true → made t n j ≡ made u m k
 parts t n u m Function Function e =
-    let p = both (t == u) _ e in
-    let q = both (n == m) _ p.1 in
+    let p = and_parts (t == u) _ e in
+    let q = and_parts (n == m) _ p.1 in
     let x : t ≡ u = eqb-true t u p.0 in
     let y : n ≡ m = eqb-true n m q.0 in
     λ i. made (x i) (y i) Function
 parts t n u m Predicate Predicate e =
-    let p = both (t == u) _ e in
-    let q = both (n == m) _ p.1 in
+    let p = and_parts (t == u) _ e in
+    let q = and_parts (n == m) _ p.1 in
     let x : t ≡ u = eqb-true t u p.0 in
     let y : n ≡ m = eqb-true n m q.0 in
     λ i. made (x i) (y i) Predicate
-parts t n u m Function Predicate e = absurd (true≢false (sym (both (n == m) false (both (t == u) _ e).1).1))
-parts t n u m Predicate Function e = absurd (true≢false (sym (both (n == m) false (both (t == u) _ e).1).1))
+parts t n u m Function Predicate e = absurd (true≢false (sym (and_parts (n == m) false (and_parts (t == u) _ e).1).1))
+parts t n u m Predicate Function e = absurd (true≢false (sym (and_parts (n == m) false (and_parts (t == u) _ e).1).1))
 
 itself : (t n : ℕ) (k : Kind) → eq-value.it (made t n k) (made t n k) ≡ true
 itself t n Function = λ i. eq-eqb t t refl i && (eq-eqb n n refl i && true)

@@ -1,30 +1,20 @@
 -- Renamings told by the places of single variables, and variables numbered in the order of first occurrence.
 use Rattle.std.proofs.Common.{◌≡◌, ℕ, zero, suc, ◌+◌, ◌<◌, ◌≤◌, max, Bool, true, false, ◌||◌, Option, None, Some, option_map, ◌⊎◌, inl, inr, List, [], ◌∷◌, ◌++◌, length, map, get_or, nat_eq, nat_lt, ap, refl, sym, ◌∙◌, arith, if◌then◌else◌, length-append}
 use Rattle.std.specs.List.{flat_map}
-use Rattle.std.proofs.lemmas.Bool.{false≢true}
+use Rattle.std.proofs.lemmas.Bool.{false≢true, or_left, or_right, or_cases, or_from, lt-ltb, le-ltb, cases_lt, ne_eqb, eqb-true}
 use Rattle.std.proofs.lemmas.List.Folds.{list_any-append}
+use Rattle.cd_list.proofs.Numbers.{equal_itself, below_next}
 use Rattle.cd_term.specs.declared.Term.{Term}
 use Rattle.cd_term.specs.declared.Term.TheVariants.{Var, App}
 use Rattle.cd_term.specs.Terms.{greatest, bound_of, variables_of, substituted, IsNumberedFrom, firsts_after, rank, ranked, renamed_by, mark, marked, first_from}
 use Rattle.cd_term.proofs.TermInduction.{ind, Each}
 use Rattle.cd_term.proofs.Equations.{substituted-Var, substituted-App, bound_of-Var, bound_of-App}
 use Rattle.cd_term.proofs.Substitutions.{substituted-substituted, substituted-identity}
-use Rattle.cd_term.proofs.Occurrence.{substituted-agree, nat_eq_is, or_true}
+use Rattle.cd_term.proofs.Occurrence.{substituted-agree}
 use Rattle.cd_term.proofs.SizeLaws.{each, bounds_are, bound_of-variables}
 use Rattle.cd_term.proofs.Firsts.{rank_known, rank_new}
 use Rattle.cd_term.proofs.VariableLaws.{known, occurs-variables, agrees-substituted, ArePlaces}
 use Rattle.cd_term.proofs.MarkLemmas.{Var-injective, marked-Var, marked-App, marked_apps, marked_apart, Var-App-apart}
-
-or_left : (a b : Bool) → a ≡ true → (a || b) ≡ true
-or_left true b e = refl
-or_left false b e = absurd (cc)
-
-or_right : (a b : Bool) → b ≡ true → (a || b) ≡ true
-or_right true b e = refl
-or_right false b e = e
-
-nat_eq_self : (n : ℕ) → nat_eq n n ≡ true
-nat_eq_self n = grind arith
 
 abbrev bit : Bool → ℕ
 bit b = if b then 1 else 0
@@ -59,8 +49,8 @@ image_variable p bound m = λ t places le. elim (either t) [
     below le = omega (arith, le, bound_of-Var m)
 
     same : (k : ℕ) (b : Bool) → nat_eq k (p m) ≡ b → ◌≡◌ {A = ℕ} (if b then 1 else 0) (if nat_eq m m then 1 else 0) → k ≡ p m
-    same k true is e = nat_eq_is k (p m) is
-    same k false is e = absurd (omega (arith, e, ap bit (nat_eq_self m)))
+    same k true is e = eqb-true k (p m) is
+    same k false is e = absurd (omega (arith, e, ap bit (equal_itself m)))
 
 image_terms : (p : ℕ → ℕ) (bound : ℕ) → 0 < bound → (us : List Term) → Each (IsImage p bound) us → (ts : List Term) →
     AllHavePlaces p bound ts us → greatest (map bound_of us) ≤ bound → ts ≡ map (renamed_by p) us
@@ -108,7 +98,7 @@ agree_known g h n [] e k = absurd (cc)
 agree_known g h n (u ∷ us) e k =
     let here : substituted g u ≡ substituted h u = cc in
     let rest : map (substituted g) us ≡ map (substituted h) us = cc in
-    elim (or_true (known n (variables_of u)) (known n (flat_map variables_of us))
+    elim (or_cases (known n (variables_of u)) (known n (flat_map variables_of us))
     (sym (list_any-append (λ y. nat_eq y n) (variables_of u) (flat_map variables_of us)) ∙ k)) [
       | inl first ↦ agrees-substituted g h n u here (occurs-variables u n ∙ first)
       | inr later ↦ agree_known g h n us rest later
@@ -122,13 +112,13 @@ mark_is : (a b : ℕ) → mark a b ≡ mark b b → a ≡ b
 mark_is a b e = at (nat_eq b a) refl (Var-injective (if nat_eq b a then 1 else 0) (if nat_eq b b then 1 else 0) e)
   where
     at : (c : Bool) → nat_eq b a ≡ c → ◌≡◌ {A = ℕ} (if c then 1 else 0) (if nat_eq b b then 1 else 0) → a ≡ b
-    at true is e = sym (nat_eq_is b a is)
-    at false is e = absurd (omega (arith, e, ap bit (nat_eq_self b)))
+    at true is e = sym (eqb-true b a is)
+    at false is e = absurd (omega (arith, e, ap bit (equal_itself b)))
 
 list_below : (b : ℕ) (ms : List ℕ) → known b ms ≡ true → b < greatest (map (λ n. n + 1) ms)
 list_below b [] k = absurd (cc)
-list_below b (m ∷ ms) k = elim (or_true (nat_eq m b) (known b ms) k) [
-  | inl here ↦ omega (arith, nat_eq_is m b here)
+list_below b (m ∷ ms) k = elim (or_cases (nat_eq m b) (known b ms) k) [
+  | inl here ↦ omega (arith, eqb-true m b here)
   | inr there ↦ omega (arith, list_below b ms there)
 ]
 
@@ -149,7 +139,7 @@ first_from-known n m (k ∷ ms) e = at (nat_lt k n) (first_from-known n m ms) e
   where
     at : (b : Bool) → (first_from n ms ≡ Some m → known m ms ≡ true) → (if b then first_from n ms else Some k) ≡ Some m → (nat_eq k m || known m ms) ≡ true
     at true rest e = or_right (nat_eq k m) (known m ms) (rest e)
-    at false rest e = let same : k ≡ m = cc in or_left (nat_eq k m) (known m ms) (ap (λ x. nat_eq k x) (sym same) ∙ nat_eq_self k)
+    at false rest e = let same : k ≡ m = cc in or_left (nat_eq k m) (known m ms) (ap (λ x. nat_eq k x) (sym same) ∙ equal_itself k)
 
 -- each number from one on is the first that isn't below it
 abbrev pub AreFirst : ℕ → ℕ → List ℕ → Type 0
@@ -165,39 +155,30 @@ pub firsts_found : (p : ℕ → ℕ) (bound : ℕ) (ms : List ℕ) → IsApart p
     ((n : ℕ) → n < bound → Some (p n) ≡ option_map p (first_from n ms)) → AreFirst 0 bound ms
 firsts_found p bound ms apart found = λ n le lt. first_at p bound n ms (first_from n ms) apart lt refl (found n lt)
 
-lt_true : (a b : ℕ) → a < b → nat_lt a b ≡ true
-lt_true a b lt = grind (arith, lt)
-
-lt_false : (a b : ℕ) → b ≤ a → nat_lt a b ≡ false
-lt_false a b le = grind (arith, le)
-
-cases : (a b : ℕ) → (a < b) ⊎ (b ≤ a)
-cases a b = grind arith
-
 pub first_numbered : (a bound : ℕ) (ms : List ℕ) → AreFirst a bound ms → greatest (map (λ n. n + 1) ms) ≤ bound → IsNumberedFrom a ms
 first_numbered a bound [] first le = tt
 first_numbered a bound (m ∷ ms) first le = (
-  head (cases a m),
+  head (cases_lt a m),
   first_numbered (max a (m + 1)) bound ms
-      (λ n above lt. sym (ap (λ b. if b then first_from n ms else Some m) (lt_true m n (omega (arith, above)))) ∙ first n (omega (arith, above)) lt)
+      (λ n above lt. sym (ap (λ b. if b then first_from n ms else Some m) (lt-ltb m n (omega (arith, above)))) ∙ first n (omega (arith, above)) lt)
       (omega (arith, le)),
 )
   where
     head : (a < m) ⊎ (m ≤ a) → m ≤ a
     head (inl over) =
-        let e : Some m ≡ Some a = sym (ap (λ b. if b then first_from a ms else Some m) (lt_false m a (omega (arith, over)))) ∙ first a (omega arith) (omega (arith, le, over)) in
+        let e : Some m ≡ Some a = sym (ap (λ b. if b then first_from a ms else Some m) (le-ltb m a (omega (arith, over)))) ∙ first a (omega arith) (omega (arith, le, over)) in
         let same : m ≡ a = cc in omega (arith, same)
     head (inr le) = le
 
 pub numbered_first : (a : ℕ) (ms : List ℕ) → IsNumberedFrom a ms → AreFirst a (max a (greatest (map (λ n. n + 1) ms))) ms
 numbered_first a [] numbered = λ n le lt. absurd (omega (arith, le, lt))
-numbered_first a (m ∷ ms) numbered = λ n le lt. at n le lt (numbered_first (max a (m + 1)) ms numbered.1 n) (cases m n)
+numbered_first a (m ∷ ms) numbered = λ n le lt. at n le lt (numbered_first (max a (m + 1)) ms numbered.1 n) (cases_lt m n)
   where
     at : (n : ℕ) → a ≤ n → n < max a (greatest (map (λ n. n + 1) (m ∷ ms))) →
         (max a (m + 1) ≤ n → n < max (max a (m + 1)) (greatest (map (λ n. n + 1) ms)) → first_from n ms ≡ Some n) →
         (m < n) ⊎ (n ≤ m) → first_from n (m ∷ ms) ≡ Some n
-    at n le lt rest (inl before) = ap (λ b. if b then first_from n ms else Some m) (lt_true m n before) ∙ rest (omega (arith, le, before)) (omega (arith, lt))
-    at n le lt rest (inr here) = ap (λ b. if b then first_from n ms else Some m) (lt_false m n here)
+    at n le lt rest (inl before) = ap (λ b. if b then first_from n ms else Some m) (lt-ltb m n before) ∙ rest (omega (arith, le, before)) (omega (arith, lt))
+    at n le lt rest (inr here) = ap (λ b. if b then first_from n ms else Some m) (le-ltb m n here)
         ∙ ap Some (let same : m ≡ n = omega (arith, le, here, numbered.0) in same)
 
 -- the images of the first numbers
@@ -209,40 +190,26 @@ images_length : (p : ℕ → ℕ) (a : ℕ) → length (images p a) ≡ a
 images_length p zero = refl
 images_length p (suc a) = length-append (images p a) (p a ∷ []) ∙ (let e : length (images p a) + 1 ≡ suc a = omega (arith, images_length p a) in e)
 
-below_or_at : (m a : ℕ) → m < suc a → (m < a) ⊎ (m ≡ a)
-below_or_at m a lt = grind (arith, lt)
-
 images_known : (p : ℕ → ℕ) (a m : ℕ) → m < a → known (p m) (images p a) ≡ true
 images_known p zero m lt = absurd (omega (arith, lt))
 images_known p (suc a) m lt =
     list_any-append (λ y. nat_eq y (p m)) (images p a) (p a ∷ [])
-    ∙ (elim (below_or_at m a lt) [
+    ∙ (elim (below_next m a (omega (arith, lt))) [
       | inl old ↦ or_left (known (p m) (images p a)) (known (p m) (p a ∷ [])) (images_known p a m old)
       | inr last ↦ or_right (known (p m) (images p a)) (known (p m) (p a ∷ []))
-          (or_left (nat_eq (p a) (p m)) false (ap (λ x. nat_eq (p a) (p x)) last ∙ nat_eq_self (p a)))
+          (or_left (nat_eq (p a) (p m)) false (ap (λ x. nat_eq (p a) (p x)) last ∙ equal_itself (p a)))
     ])
-
-or_neither : (a b : Bool) → a ≡ false → b ≡ false → (a || b) ≡ false
-or_neither true b e f = e
-or_neither false b e f = f
-
-nat_eq_apart : (m n : ℕ) → (m ≡ n → ⊥) → nat_eq m n ≡ false
-nat_eq_apart m n ne = at (nat_eq m n) refl
-  where
-    at : (b : Bool) → nat_eq m n ≡ b → nat_eq m n ≡ false
-    at true e = absurd (ne (nat_eq_is m n e))
-    at false e = e
 
 images_new : (p : ℕ → ℕ) (a k : ℕ) → ((b : ℕ) → b < a → p b ≡ k → ⊥) → known k (images p a) ≡ false
 images_new p zero k new = refl
 images_new p (suc a) k new =
     list_any-append (λ y. nat_eq y k) (images p a) (p a ∷ [])
-    ∙ or_neither (known k (images p a)) (known k (p a ∷ [])) (images_new p a k (λ b lt. new b (omega (arith, lt))))
-    (or_neither (nat_eq (p a) k) false (nat_eq_apart (p a) k (new a (omega arith))) refl)
+    ∙ or_from (known k (images p a)) (known k (p a ∷ [])) (images_new p a k (λ b lt. new b (omega (arith, lt))))
+    (or_from (nat_eq (p a) k) false (ne_eqb (p a) k (new a (omega arith))) refl)
 
 pub rank_images : (p : ℕ → ℕ) (a m : ℕ) → m < a → ((b : ℕ) → b < m → p b ≡ p m → ⊥) → rank (images p a) (p m) ≡ m
 rank_images p zero m lt new = absurd (omega (arith, lt))
-rank_images p (suc a) m lt new = elim (below_or_at m a lt) [
+rank_images p (suc a) m lt new = elim (below_next m a (omega (arith, lt))) [
   | inl old ↦ (rank_known (images p a) (p a ∷ []) (p m) (images_known p a m old)).0 ∙ rank_images p a m old new
   | inr last ↦ ap (λ x. rank (images p (suc a)) (p x)) last
       ∙ rank_new (images p a) [] (p a) (images_new p a (p a) (λ b below same. new b (omega (arith, below, last)) (same ∙ ap p (sym last))))
@@ -254,7 +221,7 @@ pub firsts_images : (p : ℕ → ℕ) (bound : ℕ) (ms : List ℕ) (a : ℕ) �
     IsApart p bound ms → firsts_after (images p a) (map p ms) ≡ images p (max a (greatest (map (λ n. n + 1) ms)))
 firsts_images p bound [] a numbered le apart = ap (images p) (let e : a ≡ max a 0 = omega arith in e)
 firsts_images p bound (m ∷ ms) a numbered le apart =
-    step (below_or_at m a (omega (arith, numbered.0)))
+    step (below_next m a (omega (arith, numbered.0)))
     (firsts_images p bound ms (max a (m + 1)) numbered.1 (omega (arith, le)) (λ b k. apart b (or_right (nat_eq m b) (known b ms) k)))
   where
     step : (m < a) ⊎ (m ≡ a) →
@@ -270,7 +237,7 @@ firsts_images p bound (m ∷ ms) a numbered le apart =
           arith,
           lt,
           last,
-          apart m (or_left (nat_eq m m) (known m ms) (nat_eq_self m)) b (omega (arith, lt, last, le)) same,
+          apart m (or_left (nat_eq m m) (known m ms) (equal_itself m)) b (omega (arith, lt, last, le)) same,
         )))
         ∙ ap (λ x. firsts_after (images p a ++ p x ∷ []) (map p ms)) last
         ∙ ap (λ x. firsts_after (images p x) (map p ms)) (let e : suc a ≡ max a (m + 1) = omega (arith, last) in e)
@@ -322,11 +289,11 @@ mark_same : (order : List ℕ) (n m : ℕ) → ArePlaces order → n < length or
 mark_same order n m places lt below = at (nat_eq m n) refl
   where
     at : (b : Bool) → nat_eq m n ≡ b → mark (get_or order n 0) (get_or order m 0) ≡ mark n m
-    at true is = ap (λ x. mark (get_or order n 0) (get_or order x 0)) (nat_eq_is m n is)
-        ∙ ap (λ c. Var (if c then 1 else 0)) (nat_eq_self (get_or order n 0) ∙ sym is)
+    at true is = ap (λ x. mark (get_or order n 0) (get_or order x 0)) (eqb-true m n is)
+        ∙ ap (λ c. Var (if c then 1 else 0)) (equal_itself (get_or order n 0) ∙ sym is)
     at false is = ap (λ c. Var (if c then 1 else 0))
-        (nat_eq_apart (get_or order m 0) (get_or order n 0)
-        (λ same. false≢true (sym is ∙ ap (λ x. nat_eq x n) (sym (places m below) ∙ ap (rank order) same ∙ places n lt) ∙ nat_eq_self n)) ∙ sym is)
+        (ne_eqb (get_or order m 0) (get_or order n 0)
+        (λ same. false≢true (sym is ∙ ap (λ x. nat_eq x n) (sym (places m below) ∙ ap (rank order) same ∙ places n lt) ∙ equal_itself n)) ∙ sym is)
 
 pub marks_same : (order : List ℕ) (us : List Term) (n : ℕ) → ArePlaces order → greatest (map bound_of us) ≤ length order → n < length order →
     map (λ t. marked (get_or order n 0) (renamed_by (λ m. get_or order m 0) t)) us ≡ map (marked n) us

@@ -1,20 +1,14 @@
 -- What follows from whether a variable occurs.
-use Rattle.std.proofs.Common.{◌≡◌, ◌≢◌, ℕ, ◌+◌, ◌<◌, ◌≤◌, Bool, true, false, ◌⊎◌, inl, inr, List, [], ◌∷◌, map, nat_eq, sum_by, ap, subst, refl, sym, ◌∙◌, arith, if◌then◌else◌, ◌||◌}
+use Rattle.std.proofs.Common.{◌≡◌, ◌≢◌, ℕ, ◌+◌, ◌<◌, ◌≤◌, Bool, true, false, ◌⊎◌, inl, inr, List, [], ◌∷◌, map, nat_eq, sum_by, ap, subst, refl, sym, ◌∙◌, arith, if◌then◌else◌}
 use Rattle.std.specs.List.{list_any}
 use Rattle.std.proofs.lemmas.List.Sums.{sum_by-cons}
+use Rattle.std.proofs.lemmas.Bool.{or_parts, or_cases, or_left, or_right, eqb-true}
+use Rattle.cd_list.proofs.Numbers.{equal_itself}
 use Rattle.cd_term.specs.declared.Term.{Term}
 use Rattle.cd_term.specs.declared.Term.TheVariants.{Var, App}
 use Rattle.cd_term.specs.Terms.{substituted, occurs, size_of, one, bound_of, greatest}
 use Rattle.cd_term.proofs.TermInduction.{ind, Each}
 use Rattle.cd_term.proofs.Equations.{substituted-Var, substituted-App, occurs-Var, occurs-App, size_of-App, bound_of-Var, bound_of-App}
-
-or_false : (a b : Bool) → (a || b) ≡ false → (a ≡ false) × (b ≡ false)
-or_false true b e = absurd (cc)
-or_false false b e = (refl, e)
-
-pub or_true : (a b : Bool) → (a || b) ≡ true → (a ≡ true) ⊎ (b ≡ true)
-or_true true b e = inl refl
-or_true false b e = inr e
 
 -- whether a variable occurs in one of several terms
 abbrev pub occurs_among : ℕ → List Term → Bool
@@ -24,10 +18,10 @@ unbound_all : (x : ℕ) (u : Term) (ts : List Term) → Each (λ t. occurs x t �
     occurs_among x ts ≡ false → map (substituted (one x u)) ts ≡ ts
 unbound_all x u [] e o = refl
 unbound_all x u (t ∷ ts) e o =
-    let both = or_false (occurs x t) (occurs_among x ts) o in
+    let both = or_parts (occurs x t) (occurs_among x ts) o in
     let here = e.0 both.0 in let rest = unbound_all x u ts e.1 both.1 in cc
 
-one_other : (x : ℕ) (u : Term) (n : ℕ) (b : Bool) → nat_eq n x ≡ b → b ≡ false → one x u n ≡ Var n
+pub one_other : (x : ℕ) (u : Term) (n : ℕ) (b : Bool) → nat_eq n x ≡ b → b ≡ false → one x u n ≡ Var n
 one_other x u n b is e = rw (is ∙ e)
 
 -- the binding of a variable that doesn't occur changes nothing
@@ -40,13 +34,10 @@ among_size : (g : ℕ → Term) (x : ℕ) (ts : List Term) →
     Each (λ t. occurs x t ≡ true → size_of (g x) ≤ size_of (substituted g t)) ts →
     occurs_among x ts ≡ true → size_of (g x) ≤ sum_by size_of (map (substituted g) ts)
 among_size g x [] e o = absurd (cc)
-among_size g x (t ∷ ts) e o = elim (or_true (occurs x t) (occurs_among x ts) o) [
+among_size g x (t ∷ ts) e o = elim (or_cases (occurs x t) (occurs_among x ts) o) [
   | inl here ↦ omega (arith, e.0 here, sum_by-cons size_of (substituted g t) (map (substituted g) ts))
   | inr there ↦ omega (arith, among_size g x ts e.1 there, sum_by-cons size_of (substituted g t) (map (substituted g) ts))
 ]
-
-pub nat_eq_is : (n x : ℕ) → nat_eq n x ≡ true → n ≡ x
-nat_eq_is n x e = grind (arith, e)
 
 size_at_App : (g : ℕ → Term) (x f : ℕ) (ts : List Term) →
     Each (λ t. occurs x t ≡ true → size_of (g x) ≤ size_of (substituted g t)) ts →
@@ -61,7 +52,7 @@ size_at_App g x f ts e o = omega (
 -- the value of a variable is no larger than that of a term in which it occurs
 pub size_of-occurs : (g : ℕ → Term) (x : ℕ) (t : Term) → occurs x t ≡ true → size_of (g x) ≤ size_of (substituted g t)
 size_of-occurs g x = ind (λ t. occurs x t ≡ true → size_of (g x) ≤ size_of (substituted g t))
-    (λ n o. omega (arith, ap size_of (substituted-Var g n), ap (λ k. size_of (g k)) (nat_eq_is n x (sym (occurs-Var x n) ∙ o))))
+    (λ n o. omega (arith, ap size_of (substituted-Var g n), ap (λ k. size_of (g k)) (eqb-true n x (sym (occurs-Var x n) ∙ o))))
     (λ f ts e o. omega (arith, size_at_App g x f ts e o))
 
 each_occurs : (g : ℕ → Term) (x : ℕ) (ts : List Term) → Each (λ t. occurs x t ≡ true → size_of (g x) ≤ size_of (substituted g t)) ts
@@ -76,14 +67,14 @@ occurs_apart g x f ts o e = omega (arith, size_at_App g x f ts (each_occurs g x 
 among_bound : (x : ℕ) (ts : List Term) → Each (λ t. occurs x t ≡ true → x < bound_of t) ts →
     occurs_among x ts ≡ true → x < greatest (map bound_of ts)
 among_bound x [] e o = absurd (cc)
-among_bound x (t ∷ ts) e o = elim (or_true (occurs x t) (occurs_among x ts) o) [
+among_bound x (t ∷ ts) e o = elim (or_cases (occurs x t) (occurs_among x ts) o) [
   | inl here ↦ omega (arith, e.0 here)
   | inr there ↦ omega (arith, among_bound x ts e.1 there)
 ]
 
 pub occurs_below : (x : ℕ) (t : Term) → occurs x t ≡ true → x < bound_of t
 occurs_below x = ind (λ t. occurs x t ≡ true → x < bound_of t)
-    (λ n o. omega (arith, bound_of-Var n, nat_eq_is n x (sym (occurs-Var x n) ∙ o)))
+    (λ n o. omega (arith, bound_of-Var n, eqb-true n x (sym (occurs-Var x n) ∙ o)))
     (λ f ts e o. omega (arith, bound_of-App f ts, among_bound x ts e (sym (occurs-App x f ts) ∙ o)))
 
 -- what occurs after a binding: the variable itself is gone, unless it occurs in the value
@@ -95,7 +86,7 @@ among_after : (k x : ℕ) (u : Term) (ts : List Term) →
     occurs_among k (map (substituted (one x u)) ts) ≡ true → OccursAfter k x u (occurs_among k ts)
 among_after k x u [] e o = absurd (cc)
 among_after k x u (t ∷ ts) e o =
-    elim (or_true (occurs k (substituted (one x u) t)) (occurs_among k (map (substituted (one x u)) ts)) o) [
+    elim (or_cases (occurs k (substituted (one x u) t)) (occurs_among k (map (substituted (one x u)) ts)) o) [
       | inl here ↦ elim (e.0 here) [
         | inl p ↦ inl (rw p.0, p.1)
         | inr q ↦ inr q
@@ -105,15 +96,11 @@ among_after k x u (t ∷ ts) e o =
         | inr q ↦ inr q
       ]
     ]
-  where
-    or_right : (a b : Bool) → b ≡ true → (a || b) ≡ true
-    or_right true b e = refl
-    or_right false b e = e
 
 one_after : (k x : ℕ) (u : Term) (n : ℕ) (b : Bool) → nat_eq n x ≡ b →
     occurs k (if b then u else Var n) ≡ true → OccursAfter k x u (occurs k (Var n))
 one_after k x u n true is o = inr o
-one_after k x u n false is o = inl (o, λ e. apart n k x is (nat_eq_is n k (sym (occurs-Var k n) ∙ o)) e)
+one_after k x u n false is o = inl (o, λ e. apart n k x is (eqb-true n k (sym (occurs-Var k n) ∙ o)) e)
   where
     apart : (n k x : ℕ) → nat_eq n x ≡ false → n ≡ k → k ≡ x → ⊥
     apart n k x f p q = grind (arith, f, p, q)
@@ -131,20 +118,9 @@ among_agree g h [] e same = refl
 among_agree g h (t ∷ ts) e same =
     let here = e.0 (λ k o. same k (or_left (occurs k t) (occurs_among k ts) o)) in
     let rest = among_agree g h ts e.1 (λ k o. same k (or_right (occurs k t) (occurs_among k ts) o)) in cc
-  where
-    or_left : (a b : Bool) → a ≡ true → (a || b) ≡ true
-    or_left true b e = refl
-    or_left false b e = absurd (cc)
-
-    or_right : (a b : Bool) → b ≡ true → (a || b) ≡ true
-    or_right true b e = refl
-    or_right false b e = e
-
-nat_eq_self : (n : ℕ) → nat_eq n n ≡ true
-nat_eq_self n = grind arith
 
 -- substitutions that agree on the variables of a term give it one value
 pub substituted-agree : (g h : ℕ → Term) (t : Term) → ((k : ℕ) → occurs k t ≡ true → g k ≡ h k) → substituted g t ≡ substituted h t
 substituted-agree g h = ind (λ t. ((k : ℕ) → occurs k t ≡ true → g k ≡ h k) → substituted g t ≡ substituted h t)
-    (λ n same. substituted-Var g n ∙ same n (occurs-Var n n ∙ nat_eq_self n) ∙ sym (substituted-Var h n))
+    (λ n same. substituted-Var g n ∙ same n (occurs-Var n n ∙ equal_itself n) ∙ sym (substituted-Var h n))
     (λ f ts e same. substituted-App g f ts ∙ ap (App f) (among_agree g h ts e (λ k o. same k (occurs-App k f ts ∙ o))) ∙ sym (substituted-App h f ts))

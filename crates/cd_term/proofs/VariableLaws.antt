@@ -1,9 +1,12 @@
 -- Substitutions that agree, lists of them, and the renaming in the order of first occurrence.
-use Rattle.std.proofs.Common.{◌≡◌, ℕ, ◌+◌, ◌<◌, ◌≤◌, Bool, true, false, ◌||◌, ◌⊎◌, inl, inr, List, [], ◌∷◌, ◌++◌, length, map, get_or, nat_eq, unwrap_or, option_map, ap, subst, refl, sym, ◌∙◌, arith, if◌then◌else◌, length-append}
+use Rattle.std.proofs.Common.{◌≡◌, ℕ, ◌+◌, ◌<◌, ◌≤◌, Bool, true, false, ◌||◌, inl, inr, List, [], ◌∷◌, ◌++◌, length, map, get_or, nat_eq, unwrap_or, option_map, ap, subst, refl, sym, ◌∙◌, arith, if◌then◌else◌, length-append}
 use Rattle.std.specs.List.{list_any, flat_map}
 use Rattle.std.proofs.lemmas.List.{map-append, get_or_append_left, get_or_push}
 use Rattle.std.proofs.lemmas.List.Folds.{list_any-append, list_any_at}
 use Rattle.std.proofs.lemmas.Option.{slice_get-map, slice_get_cases}
+use Rattle.std.proofs.lemmas.Bool.{or_left, or_right, or_cases, eqb-true, cases_lt}
+use Rattle.std.proofs.Math.Bool.{or-false}
+use Rattle.cd_list.proofs.Numbers.{equal_itself}
 use Rattle.cd_term.specs.declared.Term.{Term, out-Term}
 use Rattle.cd_term.specs.declared.Term.TheVariants.{Var, App, outs-App}
 use Rattle.cd_term.specs.declared.Term.TheOpen as layer
@@ -11,24 +14,9 @@ use Rattle.cd_term.specs.Terms.{greatest, bound_of, variables_of, occurs, substi
 use Rattle.cd_term.proofs.TermInduction.{ind, Each}
 use Rattle.cd_term.proofs.Equations.{substituted-Var, substituted-App, occurs-Var, occurs-App, variables_of-Var, variables_of-App}
 use Rattle.cd_term.proofs.Substitutions.{substituted-substituted, substituted-identity}
-use Rattle.cd_term.proofs.Occurrence.{substituted-agree, occurs_among, occurs_below, nat_eq_is, or_true}
+use Rattle.cd_term.proofs.Occurrence.{substituted-agree, occurs_among, occurs_below}
 use Rattle.cd_term.proofs.SizeLaws.{each, bounds_are, bound_of-variables}
 use Rattle.cd_term.proofs.Firsts.{noted, firsts_extend, rank_known, rank_new, ranks_numbered}
-
-or_left : (a b : Bool) → a ≡ true → (a || b) ≡ true
-or_left true b e = refl
-or_left false b e = absurd (cc)
-
-or_right : (a b : Bool) → b ≡ true → (a || b) ≡ true
-or_right true b e = refl
-or_right false b e = e
-
-or_nothing : (a : Bool) → a ≡ (a || false)
-or_nothing true = refl
-or_nothing false = refl
-
-nat_eq_self : (n : ℕ) → nat_eq n n ≡ true
-nat_eq_self n = grind arith
 
 -- a number is in a list
 abbrev pub known : ℕ → List ℕ → Bool
@@ -44,7 +32,7 @@ among_variables k (t ∷ ts) e =
 
 pub occurs-variables : (t : Term) (k : ℕ) → occurs k t ≡ known k (variables_of t)
 occurs-variables t k = ind (λ t. occurs k t ≡ known k (variables_of t))
-    (λ n. occurs-Var k n ∙ or_nothing (nat_eq n k) ∙ sym (ap (known k) (variables_of-Var n)))
+    (λ n. occurs-Var k n ∙ sym (or-false (nat_eq n k)) ∙ sym (ap (known k) (variables_of-Var n)))
     (λ f ts e. occurs-App k f ts ∙ among_variables k ts e ∙ sym (ap (known k) (variables_of-App f ts))) t
 
 -- an application determines its symbol and its arguments
@@ -63,14 +51,14 @@ among_agrees g h n [] e same o = absurd (cc)
 among_agrees g h n (t ∷ ts) e same o =
     let here : substituted g t ≡ substituted h t = cc in
     let rest : map (substituted g) ts ≡ map (substituted h) ts = cc in
-    elim (or_true (occurs n t) (occurs_among n ts) o) [
+    elim (or_cases (occurs n t) (occurs_among n ts) o) [
       | inl first ↦ e.0 here first
       | inr later ↦ among_agrees g h n ts e.1 rest later
     ]
 
 pub agrees-substituted : (g h : ℕ → Term) (n : ℕ) (t : Term) → Agrees g h n t
 agrees-substituted g h n = ind (Agrees g h n)
-    (λ k same o. let is : k ≡ n = nat_eq_is k n (sym (occurs-Var n k) ∙ o) in
+    (λ k same o. let is : k ≡ n = eqb-true k n (sym (occurs-Var n k) ∙ o) in
     subst (λ m. g m ≡ h m) is (sym (substituted-Var g k) ∙ same ∙ substituted-Var h k))
     (λ f ts e same o. among_agrees g h n ts e
     (App-injective f f (map (substituted g) ts) (map (substituted h) ts) (sym (substituted-App g f ts) ∙ same ∙ substituted-App h f ts)).1
@@ -115,13 +103,13 @@ seen_known k seen ks e = let r = firsts_extend seen ks in
 
 noted_known_at : (k : ℕ) (seen : List ℕ) (j : ℕ) (b : Bool) → known j seen ≡ b → nat_eq j k ≡ true →
     known k (if b then seen else seen ++ j ∷ []) ≡ true
-noted_known_at k seen j true e same = let eq : j ≡ k = nat_eq_is j k same in ap (λ i. known i seen) (sym eq) ∙ e
+noted_known_at k seen j true e same = let eq : j ≡ k = eqb-true j k same in ap (λ i. known i seen) (sym eq) ∙ e
 noted_known_at k seen j false e same = list_any-append (λ y. nat_eq y k) seen (j ∷ [])
     ∙ or_right (known k seen) (nat_eq j k || false) (or_left (nat_eq j k) false same)
 
 pub firsts_known : (k : ℕ) (seen ks : List ℕ) → known k ks ≡ true → known k (firsts_after seen ks) ≡ true
 firsts_known k seen [] e = absurd (cc)
-firsts_known k seen (j ∷ ks) e = elim (or_true (nat_eq j k) (known k ks) e) [
+firsts_known k seen (j ∷ ks) e = elim (or_cases (nat_eq j k) (known k ks) e) [
   | inl here ↦ seen_known k (noted seen j) ks (noted_known_at k seen j (known j seen) refl here)
   | inr there ↦ firsts_known k (noted seen j) ks there
 ]
@@ -131,14 +119,11 @@ abbrev pub ArePlaces : List ℕ → Type 0
 ArePlaces order = (n : ℕ) → n < length order → rank order (get_or order n 0) ≡ n
 
 places_more : (seen : List ℕ) (k : ℕ) → known k seen ≡ false → ArePlaces seen → ArePlaces (seen ++ k ∷ [])
-places_more seen k new places n lt = elim (below n) [ inl old ↦ front old | inr last ↦ back last ]
+places_more seen k new places n lt = elim (cases_lt n (length seen)) [ inl old ↦ front old | inr last ↦ back last ]
   where
-    below : (n : ℕ) → (n < length seen) ⊎ (length seen ≤ n)
-    below n = grind arith
-
     front : n < length seen → rank (seen ++ k ∷ []) (get_or (seen ++ k ∷ []) n 0) ≡ n
     front old = ap (rank (seen ++ k ∷ [])) (get_or_append_left seen (k ∷ []) 0 n old)
-        ∙ (rank_known seen (k ∷ []) (get_or seen n 0) (list_any_at (λ y. nat_eq y (get_or seen n 0)) seen n 0 old (nat_eq_self (get_or seen n 0)))).0
+        ∙ (rank_known seen (k ∷ []) (get_or seen n 0) (list_any_at (λ y. nat_eq y (get_or seen n 0)) seen n 0 old (equal_itself (get_or seen n 0)))).0
         ∙ places n old
 
     back : length seen ≤ n → rank (seen ++ k ∷ []) (get_or (seen ++ k ∷ []) n 0) ≡ n
@@ -160,7 +145,7 @@ ranks_below : (order ks : List ℕ) → ((k : ℕ) → known k ks ≡ true → k
     greatest (map (λ n. n + 1) (map (rank order) ks)) ≤ length order
 ranks_below order [] all = omega arith
 ranks_below order (k ∷ ks) all =
-    let here = (rank_known order [] k (all k (or_left (nat_eq k k) (known k ks) (nat_eq_self k)))).1 in
+    let here = (rank_known order [] k (all k (or_left (nat_eq k k) (known k ks) (equal_itself k)))).1 in
     let rest = ranks_below order ks (λ j e. all j (or_right (nat_eq k j) (known j ks) e)) in
     omega (arith, here, rest)
 

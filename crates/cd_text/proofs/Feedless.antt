@@ -4,6 +4,7 @@ use Rattle.std.specs.List.{flat_map, list_all, AllByRecursion}
 use Rattle.std.proofs.lemmas.Bool.Decides.{nat_tests}
 use Rattle.std.proofs.lemmas.List.Concat.{flat_map-cons}
 use Rattle.std.proofs.lemmas.Fmt.{decimal_by_steps}
+use Rattle.std.proofs.lemmas.Bool.{and_parts}
 use Rattle.cd_term.specs.declared.Term.{Term}
 use Rattle.cd_term.specs.declared.Term.TheVariants.{Var, App}
 use Rattle.cd_term.specs.Terms.{greatest, bound_of}
@@ -20,7 +21,7 @@ use Rattle.cd_read.specs.declared.problem.Label.TheVariants.{Word}
 use Rattle.cd_read.specs.declared.problem.Role.{Role}
 use Rattle.cd_read.specs.declared.problem.Role.TheVariants.{Axiom}
 use Rattle.cd_read.specs.Words.{is_word, is_word_byte}
-use Rattle.cd_read.proofs.WordsLemmas.{both, word_all}
+use Rattle.cd_read.proofs.WordsLemmas.{word_all}
 use Rattle.cd_text.proofs.TermTexts.{variable_text, application_text}
 use Rattle.cd_text.specs.declared.line.LineRole.{LineRole}
 use Rattle.cd_text.specs.declared.line.LineRole.TheVariants.{Given, Plain}
@@ -54,7 +55,7 @@ word_byte_apart b h = grind (arith, nat_tests)
 word_bytes_feedless : (w : List ℕ) → list_all is_word_byte w ≡ true → feedless w ≡ true
 word_bytes_feedless [] h = refl
 word_bytes_feedless (b ∷ bs) h =
-    let p = both (is_word_byte b) (list_all is_word_byte bs) h in
+    let p = and_parts (is_word_byte b) (list_all is_word_byte bs) h in
     rw (word_byte_apart b p.0) (word_bytes_feedless bs p.1)
 
 shown_by : (t : Bool) (b : ℕ) → is_printable b ≡ t → (cond t b 63 == 10) ≡ false

@@ -1,4 +1,4 @@
-use Rattle.std.proofs.Common.{rules, arith, refl, ◌≡◌, slice_get, Some, length, ap}
+use Rattle.std.proofs.Common.{arith, refl, ◌≡◌, slice_get, Some, length, ap}
 use Rattle.std.proofs.lemmas.Option.{slice_get_read}
 use Rattle.cd_list.proofs.Lists.{set_same}
 use Rattle.cd_list.proofs.sequence.Sequence.at_mut.Goals as goal
