@@ -1,5 +1,5 @@
 //! Which records stand in the derivation.
-ghost use Rattle.std.specs.Prelude.{◌≡◌, ◌-◌, ◌<◌, length, IfOk, slice_set, replicate, true, false, if◌then◌else◌};
+ghost use Rattle.std.specs.Prelude.{◌≡◌, ℕ, ◌-◌, ◌<◌, length, IfOk, slice_set, replicate, true, false, if◌then◌else◌};
 ghost use Rattle.cd_build.specs.Marks.{AreMarks, ArePlaced, all_wanted, is_marked, marked};
 
 use cd_ledger::{Known, Record};
@@ -7,12 +7,11 @@ use cd_list::Sequence;
 use cd_names::Name;
 use std::alloc::{AllocError, Global};
 
-/// A mark for each place of a record: whether the last record stands on the one there, or is it.
-pub fn marks_of(alloc: Global, me: u16, known: &[Known]) -> Result<Sequence<bool>, AllocError>
-    requires { ArePlaced me (length known.now) 0 known.now }
-    ensures { IfOk result (AreMarks me (length known.now) (all_wanted known.now)) }
+/// A mark for each place of a record: whether the last record stands on the one there, or is it. The records
+/// are those of one peer, whichever it is.
+pub fn marks_of(alloc: Global, known: &[Known]) -> Result<Sequence<bool>, AllocError>
+    ensures { IfOk result (λ marks. (me : ℕ) → ArePlaced me (length known.now) 0 known.now → AreMarks me (length known.now) (all_wanted known.now) marks) }
 {
-    let _ = me;
     let mut marks = unmarked(alloc, known.len())?;
     mark_last(&mut marks);
     let mut i = known.len();

@@ -27,7 +27,7 @@ pub fn derivation(alloc: Global, problem: &Problem, local: &Local) -> Result<Lin
     ensures { IfOk result (IsDerivation problem.now local.now) }
 {
     let known = local.known.as_slice();
-    let marks = marks_of(alloc, local.me, known)?;
+    let marks = marks_of(alloc, known)?;
     let mut numbers = Sequence::new(alloc);
     let mut lines = Sequence::new(alloc);
     for i in 0..known.len() {

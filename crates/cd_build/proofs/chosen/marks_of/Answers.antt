@@ -11,8 +11,8 @@ loop-i-init c =
     let known = c.args.known.now in
     record {
       within = omega arith;
-      marks = subst (AreMarks c.args.me (length known) (choose (last_names (map record_of known)) (map record_of (drop (length known) known))).wanted) (sym c.mark_last.ensures)
-          (marks_start c.args.me known c.in_ok-marks.marks c.requires c.in_ok-marks.ensures);
+      marks = λ me placed. subst (AreMarks me (length known) (choose (last_names (map record_of known)) (map record_of (drop (length known) known))).wanted) (sym c.mark_last.ensures)
+          (marks_start me known c.in_ok-marks.marks placed c.in_ok-marks.ensures);
     }
 
 pub loop-i-preserved : goal.loop-i-preserved
@@ -25,7 +25,7 @@ loop-i-preserved c =
     let there = slice_get-get_or known i c.index-known-i.result small in
     record {
       within = omega (arith, c.loop-i.invariant.within);
-      marks = subst (AreMarks c.args.me (length known) (choose goal (map record_of (drop i known))).wanted) (sym c.mark_cited.ensures)
-          (marks_step c.args.me known goal i (get_or known i c.index-known-i.result) c.loop-i.marks c.requires there small
-          (subst (λ k. AreMarks c.args.me (length known) (choose goal (map record_of (drop k known))).wanted c.loop-i.marks) back c.loop-i.invariant.marks));
+      marks = λ me placed. subst (AreMarks me (length known) (choose goal (map record_of (drop i known))).wanted) (sym c.mark_cited.ensures)
+          (marks_step me known goal i (get_or known i c.index-known-i.result) c.loop-i.marks placed there small
+          (subst (λ k. AreMarks me (length known) (choose goal (map record_of (drop k known))).wanted c.loop-i.marks) back (c.loop-i.invariant.marks me placed)));
     }

@@ -4,16 +4,10 @@ use Rattle.cd_laws.specs.Right.{record_of, AreRecordsRight}
 use Rattle.cd_ledger.specs.declared.Known.{Known}
 use Rattle.cd_steps.specs.declared.Step.{Step}
 use Rattle.cd_text.specs.declared.line.Line.{Line}
-use Rattle.cd_build.specs.Marks.{ArePlaced, is_marked, EachGives, AreAddedIf}
+use Rattle.cd_build.specs.Marks.{is_marked, EachGives, AreAddedIf}
 use Rattle.cd_build.proofs.Marking.{right_placed}
 use Rattle.cd_build.proofs.Counting.{IsBuilt, built_none, built_more, built_all, gives_at}
 use Rattle.cd_build.proofs.derive.derivation.Goals as goal
-
-pub marks_of-requires : goal.marks_of-requires
-marks_of-requires c =
-    let known = c.args.local.now.known in
-    subst (λ (ks : List Known). ArePlaced c.args.local.now.me (length ks) 0 ks) (sym c.as_slice-known.ensures)
-    (right_placed c.args.problem.now c.args.local.now.me (length known) [] known c.requires.right.known (omega arith))
 
 pub loop-i-init : goal.loop-i-init
 loop-i-init c =
@@ -48,7 +42,8 @@ loop-i-preserved c =
     let added = subst (λ (ss : List Step). AreAddedIf (is_marked marks i) p known numbers ss c.loop-i.lines new) c.as_slice-in-loop-i.ensures
     (subst (λ (ns : List ℕ). AreAddedIf (is_marked marks i) p known ns c.as_slice-in-loop-i.result.now c.loop-i.lines new) c.as_slice.ensures
     (subst (λ (b : Bool). AreAddedIf b p known c.as_slice.result.now c.as_slice-in-loop-i.result.now c.loop-i.lines new) c.is_marked-marked.ensures c.in_ok-add_marked.ensures)) in
-    let built = built_more p s.me known i x marks numbers c.loop-i.lines new right c.in_ok-marks.ensures (slice_get-get_or known i c.index-known-i.result small) small c.loop-i.invariant added in
+    let placed = right_placed p s.me (length known) [] known right (omega arith) in
+    let built = built_more p s.me known i x marks numbers c.loop-i.lines new right (c.in_ok-marks.ensures s.me placed) (slice_get-get_or known i c.index-known-i.result small) small c.loop-i.invariant added in
     let pushed : c.push.new.self ≡ numbers ++ length new ∷ [] = c.in_ok-push.ensures.ok ∙ ap (λ (n : ℕ). numbers ++ n ∷ []) c.len.ensures.value in
     subst (λ (ns : List ℕ). IsBuilt p s.me known (i + 1) ns new) (sym pushed) built
 
