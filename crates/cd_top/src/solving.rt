@@ -1,7 +1,7 @@
 //! Runs the peer on a problem, and says what came of it.
 ghost use Rattle.std.specs.Prelude.{◌≡◌, ◌≤◌, [], Some, length, replicate, IfOk};
 ghost use Rattle.cd_read.specs.Problems.{IsFormed, ArePropositional};
-ghost use Rattle.cd_peer.specs.Finished.{IsFinished};
+ghost use Rattle.cd_laws.specs.Right.{IsRight};
 ghost use Rattle.cd_top.specs.Ends.{verdict_answer, IsVerdictText, IsRunAnswer};
 ghost use Rattle.cd_top.specs.Headline.{HasDefaults, RunEnds, Refutes};
 
@@ -33,7 +33,7 @@ pub fn solve(alloc: Global, problem: Problem) -> Result<(Answer, Account), Alloc
     let limits = Limits { steps: STEPS };
     let local = run(alloc, &problem, limits)?;
     let answer = answer_of(&local);
-    let text = text_of(alloc, &problem, limits, &local)?;
+    let text = text_of(alloc, &problem, &local)?;
     let journal = journal_of(local);
     let order = order_of(alloc, journal.as_slice())?;
     let mut journals = Sequence::new(alloc);
@@ -59,18 +59,10 @@ fn answer_of(local: &Local) -> Answer
     }
 }
 
-fn text_of(
-    alloc: Global,
-    problem: &Problem,
-    limits: Limits,
-    local: &Local,
-) -> Result<Bytes, AllocError>
-    requires formed { IsFormed problem.now }
-    requires propositional { ArePropositional problem.now.inputs }
-    requires finished { IsFinished problem.now limits local.now }
+fn text_of(alloc: Global, problem: &Problem, local: &Local) -> Result<Bytes, AllocError>
+    requires { IsRight problem.now local.now }
     ensures { IfOk result (IsVerdictText problem.now local.now local.now.verdict) }
 {
-    let _ = limits;
     match local.verdict {
         Some(Verdict::Refuted) => {
             let lines = derivation(alloc, problem, local)?;

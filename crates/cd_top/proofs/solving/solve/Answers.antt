@@ -6,9 +6,12 @@ use Rattle.cd_ledger.specs.declared.Verdict.TheVariants.{Refuted}
 use Rattle.cd_top.specs.declared.answer.Account.{Account}
 use Rattle.cd_top.specs.declared.answer.Answer.{Answer}
 use Rattle.cd_top.specs.Headline.{RunEnds}
-use Rattle.cd_top.proofs.Accepting.{finished_refutes, text_accepted}
+use Rattle.cd_top.proofs.Accepting.{finished_right, finished_refutes, text_accepted}
 use Rattle.cd_top.proofs.Ending.{IsAccountOf, run_ends, run_refutes}
 use Rattle.cd_top.proofs.solving.solve.Goals as goal
+
+pub text_of-requires : goal.text_of-requires
+text_of-requires c = finished_right c.args.problem (record { steps = 50000 }) c.in_ok-local.local c.requires.propositional c.in_ok-local.ensures
 
 pub returns-clause-run : goal.returns-clause-run
 returns-clause-run c =
