@@ -1,5 +1,5 @@
 //! Each run is named by what it shows. Expected texts are worked out by hand from the output format.
-use cd_ledger::{Limits, Outcome};
+use cd_ledger::{Act, Event, Limits, Outcome, Task};
 use cd_list::{Sequence, Text};
 use cd_outside::{Bytes, Fails, OpenGate, Page, Shelf};
 use cd_read::read_problem;
@@ -157,6 +157,60 @@ cnf(c6,plain,$false,inference(resolve,[status(thm),at(0,0),subst([])],[c5,c3])).
 ";
     assert_eq!(rt; status, 0);
     assert_eq!(rt; page.bytes(), text.as_slice());
+    Ok(())
+}
+
+// The acts of a journal in words, those of tasks with the numbers of their names.
+fn acts_of(alloc: Global, journal: &[Event]) -> Result<Bytes, AllocError> {
+    let mut acts = Sequence::new(alloc);
+    for event in journal {
+        match event.act {
+            Act::Keep { place: _ } => acts.extend(b"keep ")?,
+            Act::Work {
+                task: Task::Solo(a),
+            } => {
+                acts.extend(b"solo ")?;
+                put_number(&mut acts, a.seq as u64)?;
+                acts.extend(b" ")?;
+            }
+            Act::Work {
+                task: Task::Pair(a, b),
+            } => {
+                acts.extend(b"pair ")?;
+                put_number(&mut acts, a.seq as u64)?;
+                acts.extend(b" ")?;
+                put_number(&mut acts, b.seq as u64)?;
+                acts.extend(b" ")?;
+            }
+            Act::Declare => acts.extend(b"declare ")?,
+            Act::End { verdict: _ } => acts.extend(b"end ")?,
+        }
+    }
+    Ok(acts)
+}
+
+#[test]
+fn the_journal_of_a_refutation_has_its_items_and_tasks(rt: HostRuntime) -> Result<(), Fail> {
+    let alloc = rt.alloc();
+    let file = b"cnf(a,axiom,p).\ncnf(b,axiom,~p).\n";
+    let mut library = shelf_of(alloc, "t.p", file.as_slice())?;
+    let mut page = Page::new(alloc, ROOM, Sequence::new(alloc))?;
+    let words = words_of(alloc, Some("t.p"))?;
+    let outcome = prove(
+        &rt,
+        alloc,
+        words.as_slice(),
+        &mut library,
+        &mut page,
+        &OpenGate {},
+    );
+    let [journal] = outcome.account.journals.as_slice() else {
+        assert!(rt; false);
+        return Ok(());
+    };
+    let acts = acts_of(alloc, journal.as_slice())?;
+    let expected = b"keep keep solo 0 pair 0 0 solo 1 pair 0 1 keep ";
+    assert_eq!(rt; acts.as_slice(), expected.as_slice());
     Ok(())
 }
 
