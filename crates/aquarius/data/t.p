@@ -1,2 +1,4 @@
-cnf(a,axiom,p).
-cnf(b,axiom,~p).
+cnf(first,axiom,q | p).
+cnf(second,axiom,r).
+cnf(third,axiom,~p | q).
+cnf(fourth,axiom,~q).

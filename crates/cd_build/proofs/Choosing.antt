@@ -6,14 +6,15 @@ use Rattle.std.proofs.lemmas.List.Folds.{list_any-append}
 use Rattle.std.proofs.Math.Bool.{or-false, or-true}
 use Rattle.std.proofs.lemmas.Option.{slice_get_within}
 use Rattle.cd_laws.proofs.RightLemmas.{records_push}
-use Rattle.cd_ledger.proofs.NameLemmas.{same_name, same_parts, other_name, equal_names}
+use Rattle.cd_names.proofs.NameLemmas.{same_name, same_parts, other_name, equal_names}
 use Rattle.cd_clause.specs.declared.Clause.{Clause}
 use Rattle.cd_names.specs.declared.names.Name.{Name}
 use Rattle.cd_steps.specs.declared.Step.{Step}
 use Rattle.cd_steps.specs.declared.Step.TheVariants.{Input, Resolve, Tidy}
 use Rattle.cd_read.specs.declared.problem.Problem.{Problem}
 use Rattle.cd_ledger.specs.declared.Record.{Record}
-use Rattle.cd_ledger.specs.Names.{name_eq, names_in, add_once, each_once, cites_of}
+use Rattle.cd_ledger.specs.Names.{names_in, cites_of}
+use Rattle.cd_names.specs.Names.{name_eq, add_once, each_once}
 use Rattle.cd_list.proofs.Lists.{all_append}
 use Rattle.cd_laws.specs.Right.{IsNamed, AreStepsRight, IsRecordRight, AreRecordsRight}
 use Rattle.cd_build.specs.Derivation.{Chosen, is_wanted, choose}

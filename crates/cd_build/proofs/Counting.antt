@@ -5,7 +5,7 @@ use Rattle.std.proofs.lemmas.List.{length-append}
 use Rattle.std.proofs.lemmas.List.Elements.{filter-append}
 use Rattle.std.proofs.lemmas.Option.{slice_get_within}
 use Rattle.cd_list.proofs.Numbers.{below_next}
-use Rattle.cd_ledger.proofs.NameLemmas.{same_name, other_name}
+use Rattle.cd_names.proofs.NameLemmas.{same_name, other_name}
 use Rattle.cd_names.specs.declared.names.Name.{Name}
 use Rattle.cd_read.specs.declared.problem.Problem.{Problem}
 use Rattle.cd_text.specs.declared.line.Line.{Line}
@@ -13,7 +13,8 @@ use Rattle.cd_ledger.specs.declared.Known.{Known}
 use Rattle.cd_ledger.specs.declared.Local.{Local}
 use Rattle.cd_ledger.specs.declared.Record.{Record}
 use Rattle.cd_ledger.specs.declared.Verdict.TheVariants.{Refuted}
-use Rattle.cd_ledger.specs.Names.{name_eq, names_in}
+use Rattle.cd_ledger.specs.Names.{names_in}
+use Rattle.cd_names.specs.Names.{name_eq}
 use Rattle.cd_list.proofs.Lists.{all_append}
 use Rattle.cd_laws.specs.Right.{record_of, IsRecordRight, AreRecordsRight, IsRight}
 use Rattle.cd_build.specs.Derivation.{Traced, entry_of, IsTraced, is_wanted, choose, last_names, number_of, lines_of_steps, lines_from, IsDerivation}

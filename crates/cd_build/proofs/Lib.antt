@@ -5,4 +5,3 @@ pub mod Numbering
 pub mod Refuting
 pub mod Marking
 pub mod Counting
-pub mod RowLemmas

@@ -4,15 +4,15 @@ use Rattle.std.specs.List.{AllByRecursion}
 use Rattle.std.proofs.lemmas.List.{length-append, length-set, length-replicate}
 use Rattle.std.proofs.Math.Bool.{or-false, or-true}
 use Rattle.std.proofs.lemmas.Bool.{cases_eq}
-use Rattle.cd_ledger.proofs.NameLemmas.{same_name, other_name, same_parts}
+use Rattle.cd_names.proofs.NameLemmas.{same_name, other_name, same_parts}
 use Rattle.cd_names.specs.declared.names.Name.{Name}
 use Rattle.cd_read.specs.declared.problem.Problem.{Problem}
 use Rattle.cd_ledger.specs.declared.Known.{Known}
 use Rattle.cd_ledger.specs.declared.Record.{Record}
-use Rattle.cd_ledger.specs.Names.{name_eq}
+use Rattle.cd_names.specs.Names.{name_eq}
 use Rattle.cd_laws.specs.Right.{record_of, AreRecordsRight}
 use Rattle.cd_build.specs.Derivation.{Chosen, choose, is_wanted, last_names, with_record}
-use Rattle.cd_build.specs.Marks.{place_name, AreMarks, is_marked, IsPlace, ArePlaced, marked}
+use Rattle.cd_build.specs.Marks.{place_name, AreMarks, is_marked, IsPlace, ArePlaced, marks_with}
 use Rattle.cd_build.proofs.Choosing.{wanted_append, cites_placed}
 
 -- ---- marks
@@ -46,10 +46,10 @@ mark_one me count names marks n are at =
         let wanted : is_wanted (names ++ n ∷ []) m ≡ is_wanted names m = wanted_append names (n ∷ []) m ∙ ap (λ (b : Bool). is_wanted names m || (b || false)) test ∙ or-false (is_wanted names m) in
         get_set_other marks n.seq k true other ∙ are.each k small ∙ ap (λ (b : Bool). Some b) (sym wanted)
 
-mark_each : (me count : ℕ) (names : List Name) (marks : List Bool) (ns : List Name) → AreMarks me count names marks → AllByRecursion (IsPlace me count) ns → AreMarks me count (names ++ ns) (marked marks ns)
+mark_each : (me count : ℕ) (names : List Name) (marks : List Bool) (ns : List Name) → AreMarks me count names marks → AllByRecursion (IsPlace me count) ns → AreMarks me count (names ++ ns) (marks_with marks ns)
 mark_each me count names marks [] are all = subst (λ (l : List Name). AreMarks me count l marks) (sym (append-nil names)) are
 mark_each me count names marks (n ∷ ns) are all =
-    subst (λ (l : List Name). AreMarks me count l (marked (slice_set marks n.seq true) ns)) (append_assoc names (n ∷ []) ns)
+    subst (λ (l : List Name). AreMarks me count l (marks_with (slice_set marks n.seq true) ns)) (append_assoc names (n ∷ []) ns)
     (mark_each me count (names ++ n ∷ []) (slice_set marks n.seq true) ns (mark_one me count names marks n are all.0) all.1)
 
 -- ---- the start
@@ -114,13 +114,13 @@ drop_get {A} (y ∷ xs) (suc i) x there =
     drop_get xs i x there ∙ ap (λ (k : ℕ). x ∷ drop k (y ∷ xs)) (sym e)
 
 mark_by : (b : Bool) (me count : ℕ) (r : Record) (later : Chosen) (marks : List Bool) → AreMarks me count later.wanted marks → AllByRecursion (IsPlace me count) r.cites
-    → AreMarks me count (cond b (record { records = r ∷ later.records; wanted = later.wanted ++ r.cites }) later).wanted (cond b (marked marks r.cites) marks)
+    → AreMarks me count (cond b (record { records = r ∷ later.records; wanted = later.wanted ++ r.cites }) later).wanted (cond b (marks_with marks r.cites) marks)
 mark_by true me count r later marks are all = mark_each me count later.wanted marks r.cites are all
 mark_by false me count r later marks are all = are
 
 pub marks_step : (me : ℕ) (known : List Known) (goal : List Name) (i : ℕ) (x : Known) (marks : List Bool) → ArePlaced me (length known) 0 known → slice_get known i ≡ Some x → i < length known
     → AreMarks me (length known) (choose goal (map record_of (drop (i + 1) known))).wanted marks
-    → AreMarks me (length known) (choose goal (map record_of (drop i known))).wanted (cond (is_marked marks i) (marked marks x.entry.cites) marks)
+    → AreMarks me (length known) (choose goal (map record_of (drop i known))).wanted (cond (is_marked marks i) (marks_with marks x.entry.cites) marks)
 marks_step me known goal i x marks all there small are =
     let count = length known in
     let later = choose goal (map record_of (drop (i + 1) known)) in
@@ -128,8 +128,8 @@ marks_step me known goal i x marks all there small are =
     let zero_plus : 0 + i ≡ i = omega arith in
     let own : is_marked marks i ≡ is_wanted later.wanted x.entry.name =
     ap (λ o. unwrap_or o false) (are.each i small) ∙ ap (is_wanted later.wanted) (sym (at.0 ∙ ap (place_name me) zero_plus)) in
-    subst (λ (l : List Known). AreMarks me count (choose goal (map record_of l)).wanted (cond (is_marked marks i) (marked marks x.entry.cites) marks)) (sym (drop_get known i x there))
-    (subst (λ (b : Bool). AreMarks me count (with_record x.entry later).wanted (cond b (marked marks x.entry.cites) marks)) (sym own)
+    subst (λ (l : List Known). AreMarks me count (choose goal (map record_of l)).wanted (cond (is_marked marks i) (marks_with marks x.entry.cites) marks)) (sym (drop_get known i x there))
+    (subst (λ (b : Bool). AreMarks me count (with_record x.entry later).wanted (cond b (marks_with marks x.entry.cites) marks)) (sym own)
     (mark_by (is_wanted later.wanted x.entry.name) me count x.entry later marks are at.1))
 
 -- ---- right records are placed

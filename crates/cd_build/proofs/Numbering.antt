@@ -11,7 +11,8 @@ use Rattle.cd_read.specs.declared.problem.Problem.{Problem}
 use Rattle.cd_read.specs.declared.problem.Input.{Input as ProblemInput}
 use Rattle.cd_text.specs.declared.line.Line.{Line}
 use Rattle.cd_ledger.specs.declared.Record.{Record}
-use Rattle.cd_ledger.specs.Names.{name_eq, names_in}
+use Rattle.cd_ledger.specs.Names.{names_in}
+use Rattle.cd_names.specs.Names.{name_eq}
 use Rattle.cd_list.proofs.Lists.{all_append, all_weaker, all_left, all_right}
 use Rattle.cd_laws.specs.Right.{IsNamed, IsStepRight}
 use Rattle.cd_check.specs.Accepted.{clause_at, IsSourceOk, IsLineOk, AreLinesOk}

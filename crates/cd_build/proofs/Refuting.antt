@@ -4,7 +4,7 @@ use Rattle.std.specs.List.{AllByRecursion, filter, find, flat_map}
 use Rattle.std.proofs.lemmas.List.{length-append}
 use Rattle.std.proofs.lemmas.List.Elements.{filter-append}
 use Rattle.cd_laws.proofs.RightLemmas.{records_push}
-use Rattle.cd_ledger.proofs.NameLemmas.{same_name}
+use Rattle.cd_names.proofs.NameLemmas.{same_name}
 use Rattle.cd_term.specs.declared.Term.{Term}
 use Rattle.cd_term.specs.Terms.{substituted, order_of, ranked}
 use Rattle.cd_clause.specs.declared.Atom.{Atom}
@@ -28,7 +28,8 @@ use Rattle.cd_ledger.specs.declared.Verdict.{Verdict}
 use Rattle.cd_ledger.specs.declared.Verdict.TheVariants.{Refuted}
 use Rattle.cd_ledger.specs.Lean.{IsUsable}
 use Rattle.cd_ledger.specs.Machine.{is_empty, no_literals}
-use Rattle.cd_ledger.specs.Names.{name_eq, names_in}
+use Rattle.cd_ledger.specs.Names.{names_in}
+use Rattle.cd_names.specs.Names.{name_eq}
 use Rattle.cd_ledger.specs.World.{has_empty}
 use Rattle.cd_ledger.proofs.LeanLemmas.{lean_short}
 use Rattle.cd_list.proofs.Lists.{all_append, all_remove, all_get, length_remove, all_weaker}
@@ -160,7 +161,7 @@ step_line p me before records current k (Resolve pos i neg j terms) c ok fit few
     let at_i : i < 65536 = ok.5 in
     let at_j : j < 65536 = ok.6 in
     let none : terms ≡ [] = none_there terms ok.4.resolves.covers in (
-      record { number = omega arith; clause = fit.formed; short = fit.short; source = (refl, (at_i, at_j, none), refl) },
+      record { number = omega arith; clause = fit.formed; short = fit.short; source = (refl, at_i, at_j, none, refl) },
       record { number = omega arith; clause = clause_fits p c fit; source = ((omega arith, omega arith, subst TermsFit (sym none) tt), (omega arith, (omega arith, tt))) },
     )
 step_line p me before records current k Tidy c ok fit few small = (

@@ -15,12 +15,13 @@ use Rattle.cd_text.specs.declared.line.LineSource.{LineSource}
 use Rattle.cd_text.specs.declared.line.LineSource.TheVariants.{Inference}
 use Rattle.cd_ledger.specs.declared.Known.{Known}
 use Rattle.cd_ledger.specs.declared.Record.{Record}
-use Rattle.cd_ledger.specs.Names.{name_eq, names_in, look}
+use Rattle.cd_ledger.specs.Names.{names_in, look}
+use Rattle.cd_names.specs.Names.{name_eq}
 use Rattle.cd_list.proofs.Lists.{get_left, find_left, all_left, all_right}
 use Rattle.cd_laws.specs.Accounts.{IsReplayed}
 use Rattle.cd_laws.specs.Right.{record_of, IsNamed, IsStepRight, AreStepsRight, AreRecordsRight}
 use Rattle.cd_build.specs.Derivation.{AreGiven, number_of, role_of, source_of, lines_of_steps}
-use Rattle.cd_build.specs.Marks.{clause_of, input_clause, first_premise, second_premise, Gives, EachGives, source_by, line_by, AreAdded}
+use Rattle.cd_build.specs.Marks.{known_clause, input_clause, first_premise, second_premise, Gives, EachGives, source_by, line_by, AreAdded}
 use Rattle.cd_build.proofs.Choosing.{find_named}
 
 -- the steps are right one after another, behind the clause before them, give these clauses, and lead to the last one
@@ -75,18 +76,18 @@ replayed p me known before current (Resolve pos i neg j terms) c stand ok =
     )
 replayed p me known before current Tidy c stand ok = ok
 
-place_clause : (known : List Known) (k : ℕ) (a : Record) → slice_get (map record_of known) k ≡ Some a → clause_of (slice_get known k) ≡ Some a.clause
+place_clause : (known : List Known) (k : ℕ) (a : Record) → slice_get (map record_of known) k ≡ Some a → known_clause (slice_get known k) ≡ Some a.clause
 place_clause [] k a there = absurd cc
 place_clause (x ∷ xs) zero a there = let e : x.entry ≡ a = cc in ap (λ (r : Record). Some r.clause) e
 place_clause (x ∷ xs) (suc k) a there = place_clause xs k a there
 
-named_clause : (p : Problem) (me : ℕ) (known : List Known) (before : List Record) (n : Name) (a : Record) → StandBefore p me known before → IsNamed me before n a → clause_of (slice_get known n.seq) ≡ Some a.clause
+named_clause : (p : Problem) (me : ℕ) (known : List Known) (before : List Record) (n : Name) (a : Record) → StandBefore p me known before → IsNamed me before n a → known_clause (slice_get known n.seq) ≡ Some a.clause
 named_clause p me known before n a stand named = place_clause known n.seq a (ap (λ (l : List Record). slice_get l n.seq) stand.split ∙ get_left before stand.rest n.seq a named.there)
 
 gives : (p : Problem) (me : ℕ) (known : List Known) (before : List Record) (current : Option Clause) (s : Step) (c : Clause) → StandBefore p me known before → IsStepRight p me before current s c → Gives p known current s c
 gives p me known before current (Input index) c stand ok = ap input_clause ok.1 ∙ ok.2
 gives p me known before current (Resolve pos i neg j terms) c stand ok =
-    subst (λ (o : Option Clause). StepOk (Resolve pos i neg j terms) current o (clause_of (slice_get known neg.seq)) c) (sym (named_clause p me known before pos ok.0 stand ok.2))
+    subst (λ (o : Option Clause). StepOk (Resolve pos i neg j terms) current o (known_clause (slice_get known neg.seq)) c) (sym (named_clause p me known before pos ok.0 stand ok.2))
     (subst (λ (o : Option Clause). StepOk (Resolve pos i neg j terms) current (Some ok.0.clause) o c) (sym (named_clause p me known before neg ok.1 stand ok.3)) ok.4)
 gives p me known before current Tidy c stand ok = ok
 

@@ -16,7 +16,7 @@ use Rattle.cd_text.specs.declared.line.LineSource.TheVariants.{File, Inference}
 use Rattle.cd_ledger.specs.declared.Known.{Known}
 use Rattle.cd_ledger.specs.declared.Local.{Local}
 use Rattle.cd_ledger.specs.declared.Record.{Record}
-use Rattle.cd_ledger.specs.Names.{name_eq}
+use Rattle.cd_names.specs.Names.{name_eq}
 use Rattle.cd_ledger.specs.Machine.{is_empty}
 use Rattle.cd_laws.specs.Accounts.{IsReplayed}
 

@@ -1,4 +1,3 @@
 pub mod Derivation
 pub mod Marks
 pub mod Refuting
-pub mod Row

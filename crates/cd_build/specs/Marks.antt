@@ -1,4 +1,5 @@
 -- Marks of wanted records by their places, and lines by the numbers of earlier ones.
+-- Beyond the headline: no clause of `prove` reaches this file.
 use Rattle.std.specs.Prelude.{◌≡◌, ℕ, ◌+◌, ◌-◌, ◌<◌, Bool, true, List, [], ◌∷◌, length, map, slice_get, slice_set, slice_index, unwrap_or, ◌++◌, Option, None, Some, false}
 use Rattle.std.specs.List.{AllByRecursion}
 use Rattle.cd_clause.specs.declared.Clause.{Clause}
@@ -43,16 +44,16 @@ ArePlaced me count first [] = Unit {0}
 ArePlaced me count first (k ∷ ks) = (k.entry.name ≡ place_name me first) × AllByRecursion (IsPlace me count) k.entry.cites × ArePlaced me count (first + 1) ks
 
 -- the places of these names are marked
-abbrev pub marked : List Bool → List Name → List Bool
-marked marks [] = marks
-marked marks (n ∷ ns) = marked (slice_set marks n.seq true) ns
+abbrev pub marks_with : List Bool → List Name → List Bool
+marks_with marks [] = marks
+marks_with marks (n ∷ ns) = marks_with (slice_set marks n.seq true) ns
 
 -- ---- what a step gives, and its line
 
 -- the clause of the record in this place
-abbrev pub clause_of : Option Known → Option Clause
-clause_of None = None
-clause_of (Some k) = Some k.entry.clause
+abbrev pub known_clause : Option Known → Option Clause
+known_clause None = None
+known_clause (Some k) = Some k.entry.clause
 
 abbrev pub input_clause : Option ProblemInput → Option Clause
 input_clause None = None
@@ -61,12 +62,12 @@ input_clause (Some i) = Some i.clause
 -- the premises of a step, beside the clause before it: the clauses in the places that it names, or its input's
 abbrev pub first_premise : Problem → List Known → Step → Option Clause
 first_premise p known (Input index) = input_clause (slice_get p.inputs index)
-first_premise p known (Resolve pos i neg j subst) = clause_of (slice_get known pos.seq)
+first_premise p known (Resolve pos i neg j subst) = known_clause (slice_get known pos.seq)
 first_premise p known Tidy = None
 
 abbrev pub second_premise : List Known → Step → Option Clause
 second_premise known (Input index) = None
-second_premise known (Resolve pos i neg j subst) = clause_of (slice_get known neg.seq)
+second_premise known (Resolve pos i neg j subst) = known_clause (slice_get known neg.seq)
 second_premise known Tidy = None
 
 -- the step gives the clause, behind the clause before it

@@ -1,4 +1,5 @@
 -- That the lines of a peer that recorded the empty clause are a refutation.
+-- Beyond the headline: no clause of `prove` reaches this file.
 use Rattle.std.specs.Prelude.{◌≡◌, ◌^◌, ◌<◌, List, Some}
 use Rattle.std.specs.List.{AllByRecursion}
 use Rattle.cd_read.specs.declared.problem.Problem.{Problem}

@@ -1,6 +1,6 @@
 //! Which records stand in the derivation.
 ghost use Rattle.std.specs.Prelude.{◌≡◌, ℕ, ◌-◌, ◌<◌, length, IfOk, slice_set, replicate, true, false, if◌then◌else◌};
-ghost use Rattle.cd_build.specs.Marks.{AreMarks, ArePlaced, all_wanted, is_marked, marked};
+ghost use Rattle.cd_build.specs.Marks.{AreMarks, ArePlaced, all_wanted, is_marked, marks_with};
 
 use cd_ledger::{Known, Record};
 use cd_list::Sequence;
@@ -43,7 +43,7 @@ fn mark_last(marks: &mut Sequence<bool>)
 
 // Marks what the record cites, if its own place is marked.
 fn mark_cited(marks: &mut Sequence<bool>, place: usize, entry: &Record)
-    ensures { marks.new ≡ (if is_marked marks.old place then marked marks.old entry.now.cites else marks.old) }
+    ensures { marks.new ≡ (if is_marked marks.old place then marks_with marks.old entry.now.cites else marks.old) }
 {
     if is_marked(marks, place) {
         mark_all(marks, entry.cites.as_slice());
@@ -61,7 +61,7 @@ pub fn is_marked(marks: &Sequence<bool>, place: usize) -> bool
 }
 
 fn mark_all(marks: &mut Sequence<bool>, names: &[Name])
-    ensures { marks.new ≡ marked marks.old names.now }
+    ensures { marks.new ≡ marks_with marks.old names.now }
 {
     let mut rest = names;
     while let [name, after @ ..] = rest {

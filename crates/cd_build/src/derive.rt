@@ -5,7 +5,7 @@ ghost use Rattle.cd_clause.specs.declared.Clause.{Clause};
 ghost use Rattle.cd_ledger.specs.declared.Verdict.{Verdict};
 ghost use Rattle.cd_laws.specs.Right.{IsRight};
 ghost use Rattle.cd_build.specs.Derivation.{IsDerivation, input_role, input_source, role_of};
-ghost use Rattle.cd_build.specs.Marks.{AreAdded, AreAddedIf, EachGives, Gives, IsAdded, clause_before, clause_of, first_premise, last_clause, line_by, second_premise, source_by};
+ghost use Rattle.cd_build.specs.Marks.{AreAdded, AreAddedIf, EachGives, Gives, IsAdded, clause_before, known_clause, first_premise, last_clause, line_by, second_premise, source_by};
 
 use crate::chosen::{is_marked, marks_of};
 use cd_clause::Clause;
@@ -148,7 +148,7 @@ fn second_premise<'a>(known: &'a [Known], step: &Step) -> Option<&'a Clause>
 
 // The clause of the record in the place of this name.
 fn clause_at<'a>(known: &'a [Known], name: &Name) -> Option<&'a Clause>
-    ensures { option_copied result ≡ clause_of (slice_get known.now name.now.seq) }
+    ensures { option_copied result ≡ known_clause (slice_get known.now name.now.seq) }
 {
     match known.get(name.seq as usize) {
         Some(known) => Some(&known.entry.clause),

@@ -11,6 +11,3 @@ mod laws;
 
 pub use derive::derivation;
 pub use laws::derivations_refute;
-
-#[cfg(test)]
-mod tests;

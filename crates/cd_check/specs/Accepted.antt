@@ -1,4 +1,5 @@
 -- The texts that are accepted as derivations from a problem.
+-- Beyond the headline: no clause of `prove` reaches AcceptedTextsRefute.
 use Rattle.std.specs.Prelude.{◌≡◌, ℕ, ◌+◌, ◌<◌, ◌≤◌, Bool, false, not, ◌==◌, if◌then◌else◌, List, [], ◌∷◌, ◌++◌, length, map, filter, Option, None, Some, slice_get}
 use Rattle.std.specs.List.{AllByRecursion}
 use Rattle.cd_clause.specs.declared.Clause.{Clause}
@@ -35,17 +36,12 @@ is_taken (b ∷ bs) = not (b == 37)
 
 -- ---- the form of a line
 
--- places of literals are below 65,536; so far a substitution has no term
-abbrev pub IsStepFormed : Step → Type 0
-IsStepFormed (Input index) = Unit {0}
-IsStepFormed (Resolve pos i neg j subst) = (i < 65536) × (j < 65536) × (subst ≡ [])
-IsStepFormed Tidy = Unit {0}
-
--- a line that takes an input has its role, any other is plain and names a rule
+-- a line that takes an input has its role, any other is plain and names a rule. Places of literals are below
+-- 65,536; so far a substitution has no term
 abbrev pub IsSourceFormed : Line → LineSource → Type 0
 IsSourceFormed l (File path label) = (i : ProblemInput) × (l.role ≡ Given i.role)
 IsSourceFormed l (Inference (Input index) parents) = ⊥
-IsSourceFormed l (Inference (Resolve pos i neg j subst) parents) = (l.role ≡ Plain) × IsStepFormed (Resolve pos i neg j subst) × (length parents ≡ 2)
+IsSourceFormed l (Inference (Resolve pos i neg j subst) parents) = (l.role ≡ Plain) × (i < 65536) × (j < 65536) × (subst ≡ []) × (length parents ≡ 2)
 IsSourceFormed l (Inference Tidy parents) = (l.role ≡ Plain) × (length parents ≡ 1)
 
 pub record IsLineFormed (symbols : List Symbol) (l : Line) : Type 0 where

@@ -1,4 +1,5 @@
 -- What the lines of a text are, and which of them are taken.
+-- Beyond the headline: no clause of `prove` reaches this file.
 use Rattle.std.specs.Prelude.{◌≡◌, ℕ, true, false, List, [], ◌∷◌, ◌++◌, map, filter, Some, slice_get}
 use Rattle.std.specs.List.{flat_map, AllByRecursion}
 use Rattle.cd_symbols.specs.Symbol.{Symbol}

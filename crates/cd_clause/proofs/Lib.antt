@@ -1,5 +1,5 @@
 pub mod ClauseTerms
-pub mod AmongLemmas
+pub mod TautologyLemmas
 pub mod SoundnessLemmas
 pub mod TidyLemmas
 pub mod KeptLemmas
@@ -7,3 +7,9 @@ pub mod LimitLemmas
 pub mod JoinLemmas
 pub mod AlikeLemmas
 pub mod TidiedLemmas
+pub mod RenumberLemmas
+pub mod PlaceLemmas
+pub mod OverLemmas
+pub mod Agreement
+pub mod TidyForms
+pub mod TidyMeasures

@@ -13,7 +13,8 @@ use Rattle.cd_clause.specs.declared.Atom.{Atom}
 use Rattle.cd_clause.specs.declared.Atom.TheVariants.{Truth, Pred, Equal}
 use Rattle.cd_clause.specs.declared.Literal.{Literal}
 use Rattle.cd_clause.specs.declared.Clause.{Clause}
-use Rattle.cd_clause.specs.Clauses.{Among, terms_of, clause_terms, atom_changed, literal_changed, literals_changed, instance, renumbered_literals, exchanged, IsSameAtom, IsSameLiteral, IsTrivialAtom, IsTrivial, IsAbsurd, IsSuperfluous, AreKept, IsTidied, AreOpposite, IsTautology}
+use Rattle.cd_clause.specs.Clauses.{terms_of, clause_terms, atom_changed, literal_changed, literals_changed, instance, renumbered_literals, exchanged, IsSameAtom, IsSameLiteral, IsTrivialAtom, IsTrivial, IsAbsurd, IsSuperfluous, AreKept, IsTidied, AreOpposite, IsTautology}
+use Rattle.cd_list.specs.Lists.{Among}
 use Rattle.cd_clause.specs.Truth.{Interp, IsInterp, Point, value, atom_true, literal_true, Holds}
 use Rattle.cd_clause.proofs.SoundnessLemmas.{instance_holds}
 

@@ -1,17 +1,16 @@
 -- Clauses: sizes, variables, substitution, tidying and tautologies.
+-- Beyond the headline: no clause of `prove` reaches literal_size, clause_size, atom_depth, literal_depth,
+--   IsWithinBounds, IsAtomWithin, IsAtomMeasure, AreLiteralsWithin, AreLiteralsMeasured, variable_bound_of, instance,
+--   HasNoRepeat, joined.
 use Rattle.std.specs.Prelude.{ℕ, ◌≡◌, ◌+◌, ◌≤◌, max, true, false, ◌⊎◌, List, [], ◌∷◌, ◌++◌, map, remove, sum_by, drop, Option, Some, None}
 use Rattle.std.specs.List.{flat_map}
+use Rattle.cd_list.specs.Lists.{Among, AllPairs}
 use Rattle.cd_term.specs.declared.Term.{Term}
 use Rattle.cd_term.specs.Terms.{greatest, size_of, depth_of, bound_of, applied, substituted, order_of, ranked}
 use Rattle.cd_clause.specs.declared.Atom.{Atom}
 use Rattle.cd_clause.specs.declared.Atom.TheVariants.{Truth, Pred, Equal}
 use Rattle.cd_clause.specs.declared.Literal.{Literal}
 use Rattle.cd_clause.specs.declared.Clause.{Clause}
-
--- some item of a list
-abbrev pub Among : {A : Type 0} → (A → Type 0) → List A → Type 0
-Among P [] = ⊥
-Among P (x ∷ xs) = P x ⊎ Among P xs
 
 -- the terms of an atom: the arguments of a predicate, or the two sides of an equation
 abbrev pub terms_of : Atom → List Term
@@ -97,6 +96,10 @@ IsSameAtom a b = (a ≡ b) ⊎ (exchanged a ≡ b)
 -- equal literals, equations also with sides exchanged
 abbrev pub IsSameLiteral : Literal → Literal → Type 0
 IsSameLiteral l m = (l.positive ≡ m.positive) × IsSameAtom l.atom m.atom
+
+-- no literal is the same as an earlier one
+abbrev pub HasNoRepeat : Clause → Type 0
+HasNoRepeat c = AllPairs (λ l m. ¬ IsSameLiteral m l) c.literals
 
 -- an atom that is true everywhere: `$true`, or an equation with equal sides
 abbrev pub IsTrivialAtom : Atom → Type 0

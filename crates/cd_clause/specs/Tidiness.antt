@@ -1,4 +1,5 @@
 -- What the test of a tidy form compares.
+-- Beyond the headline: no clause of `prove` reaches this file.
 use Rattle.std.specs.Prelude.{ℕ, ◌≡◌, ◌≤◌, List, [], take, slice_get, Option, Some, option_map}
 use Rattle.std.specs.List.{flat_map}
 use Rattle.cd_term.specs.Terms.{variables_of, renamed_by, marked, first_from}

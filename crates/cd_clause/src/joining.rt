@@ -54,7 +54,9 @@ fn substituted_atom(alloc: Global, atom: &Atom, s: &[Term]) -> Result<Atom, Allo
     }
 }
 
-fn push_substituted(
+/// Adds literals with a substitution applied to a list, of whatever size. A variable past the substitution
+/// stays as it is.
+pub fn push_substituted(
     alloc: Global,
     into: &mut Literals,
     literals: &[Literal],
@@ -152,6 +154,7 @@ fn joined_literals(
 /// The literals of `a` but the one in place `skip_a`, and then those of `b` but the one in place `skip_b`,
 /// with the variables of `b` moved up by `variables(a)` and with a substitution applied. `OutOfBounds`
 /// exactly where that clause isn't within bounds; this is found before anything is built.
+/// Recurs to the depth of its terms: see 'How deep terms may be' in docs/ARCHITECTURE.md.
 pub fn join(
     alloc: Global,
     a: &Clause,

@@ -2,7 +2,8 @@
 //! the law, and the check of this crate proves it.
 #![tactic(auto)]
 
-ghost use Rattle.cd_clause.specs.Laws.{InstancesHold, TautologiesHold, TidyKeepsModels, TidyFormsAgree};
+ghost use Rattle.cd_clause.specs.Laws.{InstancesHold, TautologiesHold, TidyKeepsModels, TidyFormsAgree, RenumberingIsOneToOne, RenumberedInOrder};
+ghost use Rattle.cd_clause.specs.TidyLaws.{TidyFormsExist, TidyFormsAreTidy, TidyFormsAreSmall, TidyFormsAreOver};
 
 /// A clause that holds in an interpretation holds there under every substitution.
 pub fn instances()
@@ -19,7 +20,18 @@ pub fn tidying()
     ensures { TidyKeepsModels }
 {}
 
-/// A clause has one tidy form.
+/// A clause has one tidy form, which is tidy, no larger than the clause, and over the same symbols.
 pub fn tidy_forms()
-    ensures { TidyFormsAgree }
+    ensures there { TidyFormsExist }
+    ensures one { TidyFormsAgree }
+    ensures tidy { TidyFormsAreTidy }
+    ensures small { TidyFormsAreSmall }
+    ensures over { TidyFormsAreOver }
+{}
+
+/// A clause and its renumbered clause are instances of each other by renamings that undo each other; the
+/// variables of the renumbered one are 0, 1, 2 and so on in the order of first occurrence.
+pub fn renumbering()
+    ensures one_to_one { RenumberingIsOneToOne }
+    ensures in_order { RenumberedInOrder }
 {}

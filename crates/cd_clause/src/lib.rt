@@ -6,9 +6,11 @@
 
 ghost use Rattle.std.specs.Prelude.{◌≡◌, ◌↔◌, [], IsTrue};
 
+mod instances;
 mod joining;
 pub mod laws;
 mod limits;
+mod places;
 mod renumbering;
 mod sizes;
 mod tautology;
@@ -17,14 +19,18 @@ mod tidying;
 
 use cd_list::{Copied, Equals, Sequence};
 use cd_term::{Args, Term};
-pub use joining::join;
+pub use instances::{are_literals_applied, is_atom_applied};
+pub use joining::{join, push_substituted};
 pub use limits::{measure_literals, within};
+pub use places::{
+    at_atom, is_atom_replaced, measure_atom_replaced, sides_of, substitute_atom_replaced,
+};
 pub use renumbering::renumber;
 pub use sizes::{size, variables};
 use std::alloc::{AllocError, Global};
 pub use tautology::{is_same_atom, is_tautology, is_trivial_atom};
 pub use tidiness::is_tidied;
-pub use tidying::tidy;
+pub use tidying::{measure_tidied, tidy};
 
 /// `$true`, a predicate symbol with its arguments, or an equation. A symbol is its number in the problem's
 /// table of symbols.

@@ -1,27 +1,15 @@
 //! Clauses measured within limits, without building them.
 #![tactic(auto)]
 
-ghost use Rattle.std.specs.Prelude.{◌↔◌, map, IsTrue};
-ghost use Rattle.cd_term.specs.Terms.{applied, AreMeasured};
+ghost use Rattle.std.specs.Prelude.{◌↔◌, IsTrue};
+ghost use Rattle.cd_term.specs.Terms.{applied};
 ghost use Rattle.cd_clause.specs.Clauses.{atom_changed, literals_changed, IsAtomMeasure, AreLiteralsMeasured, IsWithinBounds};
 
 use crate::{Atom, Clause, Literal};
-use cd_term::{MAX_LEVELS, MAX_SYMBOLS, Term, measure_applied};
+use cd_term::{MAX_LEVELS, MAX_SYMBOLS, Term, measure_all_applied, measure_applied};
 
-fn measure_terms(terms: &[Term], s: &[Term], symbols: u64, levels: u64) -> Option<u64>
-    ensures { AreMeasured symbols levels (map (applied s.now) terms.now) result }
-{
-    let mut total: u64 = 0;
-    for term in terms {
-        let Some(more) = measure_applied(term, s, symbols - total, levels) else {
-            return None;
-        };
-        total += more;
-    }
-    Some(total)
-}
-
-fn measure_atom(atom: &Atom, s: &[Term], symbols: u64, levels: u64) -> Option<u64>
+/// The size that an atom has as a literal once a substitution is applied, within limits.
+pub(crate) fn measure_atom(atom: &Atom, s: &[Term], symbols: u64, levels: u64) -> Option<u64>
     ensures { IsAtomMeasure symbols levels (atom_changed (applied s.now) atom.now) result }
 {
     if symbols == 0 {
@@ -33,7 +21,7 @@ fn measure_atom(atom: &Atom, s: &[Term], symbols: u64, levels: u64) -> Option<u6
             if levels == 0 {
                 return None;
             }
-            let Some(more) = measure_terms(args.as_slice(), s, symbols - 1, levels - 1) else {
+            let Some(more) = measure_all_applied(args.as_slice(), s, symbols - 1, levels - 1) else {
                 return None;
             };
             Some(1 + more)
@@ -52,6 +40,7 @@ fn measure_atom(atom: &Atom, s: &[Term], symbols: u64, levels: u64) -> Option<u6
 
 /// The size that literals have together once a substitution is applied, where it is at most `symbols` and
 /// no atom is deeper than `levels`, or `None` otherwise. Nothing is built, and no memory is taken.
+/// Recurs to the depth of its terms: see 'How deep terms may be' in docs/ARCHITECTURE.md.
 pub fn measure_literals(literals: &[Literal], s: &[Term], symbols: u64, levels: u64) -> Option<u64>
     ensures { AreLiteralsMeasured symbols levels (literals_changed (applied s.now) literals.now) result }
 {
@@ -67,6 +56,7 @@ pub fn measure_literals(literals: &[Literal], s: &[Term], symbols: u64, levels: 
 
 /// Whether a clause has a size of at most 65,535 and each of its terms and predicate atoms at most 1,000
 /// levels.
+/// Recurs to the depth of its terms: see 'How deep terms may be' in docs/ARCHITECTURE.md.
 pub fn within(c: &Clause) -> bool
     ensures { IsTrue result ↔ (IsWithinBounds c.now) }
 {

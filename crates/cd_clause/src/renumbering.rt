@@ -90,6 +90,7 @@ fn renamed_literals(
 
 /// The clause with its variables renamed to 0, 1, 2 and so on in the order of first occurrence. A clause of
 /// 2^32 different variables or more, which no memory holds, is refused as want of memory.
+/// Recurs to the depth of its terms: see 'How deep terms may be' in docs/ARCHITECTURE.md.
 pub fn renumber(alloc: Global, c: &Clause) -> Result<Clause, AllocError>
     ensures { IfOk result (λ d. d.literals ≡ renumbered_literals c.now.literals) }
 {

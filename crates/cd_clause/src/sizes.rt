@@ -31,6 +31,7 @@ fn size_of_literal(literal: &Literal) -> u64
 }
 
 /// The sum of the sizes of the literals, each 1 and the sizes of its terms. It stops at the greatest u64.
+/// Recurs to the depth of its terms: see 'How deep terms may be' in docs/ARCHITECTURE.md.
 pub fn size(c: &Clause) -> u64
     ensures { result ≡ min (clause_size c.now) (2 ^ 64 - 1) }
 {
@@ -62,6 +63,7 @@ fn bound_of_literal(literal: &Literal) -> u64
 }
 
 /// One more than the greatest variable of a clause, or 0 where it has none.
+/// Recurs to the depth of its terms: see 'How deep terms may be' in docs/ARCHITECTURE.md.
 pub fn variables(c: &Clause) -> u64
     ensures { result ≡ variable_bound_of c.now }
 {

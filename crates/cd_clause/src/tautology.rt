@@ -2,12 +2,14 @@
 #![tactic(auto)]
 
 ghost use Rattle.std.specs.Prelude.{◌↔◌, IsTrue};
-ghost use Rattle.cd_clause.specs.Clauses.{Among, IsSameAtom, IsTrivialAtom, IsTrivial, AreOpposite, IsTautology};
+ghost use Rattle.cd_clause.specs.Clauses.{IsSameAtom, IsTrivialAtom, IsTrivial, AreOpposite, IsTautology};
+ghost use Rattle.cd_list.specs.Lists.{Among};
 
 use crate::{Atom, Clause, Literal};
 use cd_list::Equals;
 
 /// Whether two atoms are equal, equations also with sides exchanged.
+/// Recurs to the depth of its terms: see 'How deep terms may be' in docs/ARCHITECTURE.md.
 pub fn is_same_atom(a: &Atom, b: &Atom) -> bool
     ensures { IsTrue result ↔ (IsSameAtom a.now b.now) }
 {
@@ -19,6 +21,7 @@ pub fn is_same_atom(a: &Atom, b: &Atom) -> bool
 }
 
 /// Whether an atom is `$true` or an equation with equal sides.
+/// Recurs to the depth of its terms: see 'How deep terms may be' in docs/ARCHITECTURE.md.
 pub fn is_trivial_atom(a: &Atom) -> bool
     ensures { IsTrue result ↔ (IsTrivialAtom a.now) }
 {
@@ -76,6 +79,7 @@ fn has_opposites(literals: &[Literal]) -> bool
 
 /// Whether a clause has `$true`, a positive equation with equal sides, or two literals of different sign
 /// with the same atom, equations also with sides exchanged.
+/// Recurs to the depth of its terms: see 'How deep terms may be' in docs/ARCHITECTURE.md.
 pub fn is_tautology(c: &Clause) -> bool
     ensures { IsTrue result ↔ (IsTautology c.now) }
 {

@@ -10,150 +10,134 @@ use cd_term::{Args, Subst, Term};
 use std::alloc::{AllocError, Global};
 use std::test::Fail;
 
-fn pair(alloc: Global, first: Literal, second: Literal) -> Result<Clause, AllocError> {
-    let mut literals = Literals::new(alloc);
-    literals.push(first)?;
-    literals.push(second)?;
-    Ok(Clause { literals })
+fn variable(digit: u8) -> Term {
+    Term::Var(u32::from(digit.saturating_sub(b'0')))
 }
 
-fn equation(positive: bool, left: u32, right: u32) -> Literal {
-    Literal {
-        positive,
-        atom: Atom::Equal(Term::Var(left), Term::Var(right)),
+/// The atom `=` of two variables, `p` of one, or `$true`.
+fn atom(alloc: Global, text: &[u8]) -> Result<Atom, AllocError> {
+    match text {
+        [b'=', left, right] => Ok(Atom::Equal(variable(*left), variable(*right))),
+        [b'p', argument] => {
+            let mut args = Args::new(alloc);
+            args.push(variable(*argument))?;
+            Ok(Atom::Pred(3, args))
+        }
+        _ => Ok(Atom::Truth),
     }
 }
 
-fn predicate(alloc: Global, argument: u32) -> Result<Literal, AllocError> {
-    let mut args = Args::new(alloc);
-    args.push(Term::Var(argument))?;
-    Ok(Literal {
-        positive: true,
-        atom: Atom::Pred(3, args),
-    })
+/// The clause of the literals between blanks, each a sign and an atom, where a digit is a variable.
+fn clause(alloc: Global, text: &str) -> Result<Clause, AllocError> {
+    let mut literals = Literals::new(alloc);
+    for part in text.split(' ') {
+        if let [sign, rest @ ..] = part.as_bytes() {
+            literals.push(Literal {
+                positive: *sign == b'+',
+                atom: atom(alloc, rest)?,
+            })?;
+        }
+    }
+    Ok(Clause { literals })
 }
 
-#[test]
-fn clauses_are_measured_and_copied(rt: HostRuntime) -> Result<(), Fail> {
-    let alloc = rt.alloc();
-    let clause = pair(alloc, equation(true, 4, 9), predicate(alloc, 2)?)?.copy(alloc)?;
-    assert_eq!(rt; size(&clause), 5);
-    assert_eq!(rt; variables(&clause), 10);
-    assert!(rt; within(&clause));
-    assert!(rt; !is_tautology(&clause));
-    Ok(())
+fn is_spelled(alloc: Global, c: &Clause, wanted: &str) -> Result<bool, AllocError> {
+    Ok(c.copy(alloc)?.equals(&clause(alloc, wanted)?))
 }
 
-#[test]
-fn clauses_are_renumbered(rt: HostRuntime) -> Result<(), Fail> {
-    let alloc = rt.alloc();
-    let clause = pair(alloc, equation(true, 4, 9), equation(false, 9, 7))?;
-    let wanted = pair(alloc, equation(true, 0, 1), equation(false, 1, 2))?;
-    assert!(rt; renumber(alloc, &clause)?.equals(&wanted));
-    Ok(())
+fn is_measured(
+    alloc: Global,
+    text: &str,
+    symbols: u64,
+    bound: u64,
+    is_true: bool,
+) -> Result<bool, AllocError> {
+    let c = clause(alloc, text)?;
+    Ok(size(&c) == symbols && variables(&c) == bound && is_tautology(&c) == is_true && within(&c))
 }
 
-#[test]
-fn exchanged_equations_are_one(rt: HostRuntime) -> Result<(), Fail> {
-    let alloc = rt.alloc();
-    let twice = pair(alloc, equation(true, 4, 9), equation(true, 9, 4))?;
-    let tidied = tidy(alloc, &twice)?;
-    assert_eq!(rt; size(&tidied), 3);
-    assert_eq!(rt; variables(&tidied), 2);
-    assert!(rt; is_tautology(&pair(alloc, equation(true, 4, 9), equation(false, 9, 4))?));
-    Ok(())
+fn renumbers(alloc: Global, text: &str, wanted: &str) -> Result<bool, AllocError> {
+    let c = clause(alloc, text)?;
+    is_spelled(alloc, &renumber(alloc, &c)?, wanted)
 }
 
-#[test]
-fn clauses_are_joined(rt: HostRuntime) -> Result<(), Fail> {
-    let alloc = rt.alloc();
-    let a = pair(alloc, predicate(alloc, 0)?, equation(false, 0, 0))?;
-    let b = pair(alloc, predicate(alloc, 0)?, equation(true, 0, 0))?;
+fn is_form(alloc: Global, text: &str, other: &str) -> Result<bool, AllocError> {
+    Ok(is_tidied(&clause(alloc, text)?, &clause(alloc, other)?))
+}
+
+fn tidies(alloc: Global, text: &str, wanted: &str) -> Result<bool, AllocError> {
+    let c = clause(alloc, text)?;
+    let d = tidy(alloc, &c)?;
+    Ok(is_tidied(&c, &d) && is_spelled(alloc, &d, wanted)?)
+}
+
+/// Whether two clauses with one variable each and at least two literals give a clause without the first literal of
+/// the one and the second of the other, where variables 5 and 6 are put in.
+fn joins(alloc: Global, a: &str, b: &str, wanted: &str) -> Result<bool, AllocError> {
+    let a = clause(alloc, a)?;
+    let b = clause(alloc, b)?;
     let mut values = Subst::new(alloc);
     values.push(Term::Var(5))?;
     values.push(Term::Var(6))?;
-    assert!(rt; values.len() >= 2);
-    assert!(rt; variables(&a) <= 1);
-    assert!(rt; variables(&b) <= 1);
-    assert!(rt; a.literals.len() == 2);
-    assert!(rt; b.literals.len() == 2);
-    let clause = join(alloc, &a, 0, &b, 1, &values)?;
-    let wanted = pair(alloc, equation(false, 5, 5), predicate(alloc, 6)?)?;
-    assert!(rt; clause.equals(&wanted));
-    Ok(())
-}
-
-fn clause_of_one(alloc: Global, literal: Literal) -> Result<Clause, AllocError> {
-    let mut literals = Literals::new(alloc);
-    literals.push(literal)?;
-    Ok(Clause { literals })
-}
-
-fn falsehood() -> Literal {
-    Literal {
-        positive: false,
-        atom: Atom::Truth,
+    if a.literals.len() < 2 || b.literals.len() < 2 {
+        return Ok(false);
+    }
+    if variables(&a) > 1 || variables(&b) > 1 || values.len() < 2 {
+        return Ok(false);
+    }
+    match join(alloc, &a, 0, &b, 1, &values) {
+        Ok(c) => is_spelled(alloc, &c, wanted),
+        Err(_) => Ok(false),
     }
 }
 
 #[test]
-fn tidy_clauses_are_told_by_themselves(rt: HostRuntime) -> Result<(), Fail> {
+fn clauses_are_measured_renumbered_and_joined(rt: HostRuntime) -> Result<(), Fail> {
     let alloc = rt.alloc();
-    let tidied = pair(alloc, equation(true, 0, 1), predicate(alloc, 2)?)?;
-    assert!(rt; is_tidied(&tidied, &tidied));
-    let empty = Clause {
-        literals: Literals::new(alloc),
-    };
-    assert!(rt; is_tidied(&empty, &empty));
-    let gap = pair(alloc, equation(true, 0, 1), predicate(alloc, 3)?)?;
-    assert!(rt; !is_tidied(&gap, &gap));
-    let exchanged = pair(alloc, equation(true, 1, 0), predicate(alloc, 2)?)?;
-    assert!(rt; !is_tidied(&exchanged, &exchanged));
-    let repeated = pair(alloc, predicate(alloc, 0)?, predicate(alloc, 0)?)?;
-    assert!(rt; !is_tidied(&repeated, &repeated));
-    let turned = pair(alloc, equation(true, 0, 1), equation(true, 1, 0))?;
-    assert!(rt; !is_tidied(&turned, &turned));
-    let false_first = pair(alloc, falsehood(), predicate(alloc, 0)?)?;
-    assert!(rt; !is_tidied(&false_first, &false_first));
-    let one_value = pair(alloc, equation(false, 0, 0), predicate(alloc, 0)?)?;
-    assert!(rt; !is_tidied(&one_value, &one_value));
+    assert!(rt; is_measured(alloc, "+=49 +p2", 5, 10, false)?);
+    assert!(rt; is_measured(alloc, "+=49 -=94", 6, 10, true)?);
+    assert!(rt; renumbers(alloc, "+=49 -=97", "+=01 -=12")?);
+    assert!(rt; joins(alloc, "+p0 -=00", "+p0 +=00", "-=55 +p6")?);
     Ok(())
 }
 
 #[test]
-fn other_tidy_forms_are_refused(rt: HostRuntime) -> Result<(), Fail> {
+fn clauses_have_one_tidy_form(rt: HostRuntime) -> Result<(), Fail> {
     let alloc = rt.alloc();
-    let clause = pair(alloc, predicate(alloc, 7)?, predicate(alloc, 5)?)?;
-    let wanted = pair(alloc, predicate(alloc, 0)?, predicate(alloc, 1)?)?;
-    assert!(rt; is_tidied(&clause, &wanted));
-    let joined = pair(alloc, predicate(alloc, 0)?, predicate(alloc, 0)?)?;
-    assert!(rt; !is_tidied(&clause, &joined));
-    let from_one = pair(alloc, predicate(alloc, 1)?, predicate(alloc, 2)?)?;
-    assert!(rt; !is_tidied(&clause, &from_one));
-    let one_few = clause_of_one(alloc, predicate(alloc, 0)?)?;
-    assert!(rt; !is_tidied(&clause, &one_few));
-    assert!(rt; !is_tidied(&one_few, &wanted));
-    let twice = pair(alloc, predicate(alloc, 7)?, predicate(alloc, 7)?)?;
-    assert!(rt; is_tidied(&twice, &one_few));
-    assert!(rt; !is_tidied(&twice, &joined));
+    for (text, wanted) in [
+        ("+=49 +=94", "+=01"),
+        ("-=88 -=97", "-=01"),
+        ("-=88 -t", ""),
+        ("+=31 +p1", "+=01 +p1"),
+    ] {
+        assert!(rt; tidies(alloc, text, wanted)?, "{text}");
+    }
     Ok(())
 }
 
 #[test]
-fn what_tidy_gives_is_the_tidy_form(rt: HostRuntime) -> Result<(), Fail> {
+fn tidy_forms_are_told(rt: HostRuntime) -> Result<(), Fail> {
     let alloc = rt.alloc();
-    let turned = pair(alloc, equation(true, 4, 9), equation(true, 9, 4))?;
-    assert!(rt; is_tidied(&turned, &tidy(alloc, &turned)?));
-    let absurd_first = pair(alloc, equation(false, 8, 8), equation(false, 9, 7))?;
-    assert!(rt; is_tidied(&absurd_first, &tidy(alloc, &absurd_first)?));
-    let nothing_left = pair(alloc, equation(false, 8, 8), falsehood())?;
-    let tidied = tidy(alloc, &nothing_left)?;
-    assert!(rt; tidied.is_empty());
-    assert!(rt; is_tidied(&nothing_left, &tidied));
-    let different = pair(alloc, equation(true, 3, 1), predicate(alloc, 1)?)?;
-    let tidied = tidy(alloc, &different)?;
-    assert!(rt; is_tidied(&different, &tidied));
-    assert!(rt; is_tidied(&tidied, &tidied));
-    assert!(rt; !is_tidied(&turned, &tidied));
+    for (text, other, wanted) in [
+        ("+=01 +p2", "+=01 +p2", true),
+        ("", "", true),
+        ("+=01 +p3", "+=01 +p3", false),
+        ("+=10 +p2", "+=10 +p2", false),
+        ("+p0 +p0", "+p0 +p0", false),
+        ("+=01 +=10", "+=01 +=10", false),
+        ("-t +p0", "-t +p0", false),
+        ("-=00 +p0", "-=00 +p0", false),
+        ("+p7 +p5", "+p0 +p1", true),
+        ("+p7 +p5", "+p0 +p0", false),
+        ("+p7 +p5", "+p1 +p2", false),
+        ("+p7 +p5", "+p0", false),
+        ("+p0", "+p0 +p1", false),
+        ("+p7 +p7", "+p0", true),
+        ("+p7 +p7", "+p0 +p0", false),
+        ("+=01 +p1", "+=01 +p1", true),
+        ("+=49 +=94", "+=01 +p1", false),
+    ] {
+        assert!(rt; is_form(alloc, text, other)? == wanted, "{text} | {other}");
+    }
     Ok(())
 }

@@ -124,6 +124,7 @@ fn beside_kept(literals: &[Literal], clear: usize, others: &[Literal], n: u64) -
 /// No memory is taken. Each literal of `c` is compared with the earlier ones, and then what is left of `c`
 /// with `d`, twice for each variable of `d` and once where it has none. Where `c` has superfluous literals,
 /// those up to the last one are compared with the earlier ones again each time.
+/// Recurs to the depth of its terms: see 'How deep terms may be' in docs/ARCHITECTURE.md.
 pub fn is_tidied(c: &Clause, d: &Clause) -> bool
     ensures { IsTrue result ↔ (IsTidied c.now d.now) }
 {

@@ -1,13 +1,18 @@
 //! Clauses without what makes no difference.
 #![tactic(auto)]
 
-ghost use Rattle.std.specs.Prelude.{◌≡◌, ◌↔◌, [], IsTrue, IfOk};
-ghost use Rattle.cd_clause.specs.Clauses.{Among, IsSameLiteral, IsAbsurd, IsSuperfluous, AreKept, IsTidied};
+ghost use Rattle.std.specs.Prelude.{◌≡◌, ◌↔◌, List, [], IsTrue, IfOk};
+ghost use Rattle.cd_clause.specs.declared.Clause.{Clause};
+ghost use Rattle.cd_clause.specs.declared.Literal.{Literal};
+ghost use Rattle.cd_clause.specs.Clauses.{IsSameLiteral, IsAbsurd, IsSuperfluous, AreKept, IsTidied, AreLiteralsMeasured};
+ghost use Rattle.cd_list.specs.Lists.{Among};
 
+use crate::limits::measure_atom;
 use crate::renumbering::renumber;
 use crate::tautology::{is_same_atom, is_trivial_atom};
 use crate::{Clause, Literal, Literals};
 use cd_list::Copied;
+use cd_term::{MAX_LEVELS, MAX_SYMBOLS, Term};
 use std::alloc::{AllocError, Global};
 
 fn is_same_literal(l: &Literal, m: &Literal) -> bool
@@ -56,9 +61,38 @@ fn kept(alloc: Global, literals: &[Literal]) -> Result<Literals, AllocError>
 
 /// The clause without each `$false`, each negative equation with equal sides and each literal that is the
 /// same as an earlier one, and then with its variables renumbered. It holds in the same interpretations.
+/// Recurs to the depth of its terms: see 'How deep terms may be' in docs/ARCHITECTURE.md.
 pub fn tidy(alloc: Global, c: &Clause) -> Result<Clause, AllocError>
     ensures { IfOk result (λ d. IsTidied c.now d) }
 {
     let literals = kept(alloc, c.literals.as_slice())?;
     renumber(alloc, &Clause { literals })
+}
+
+/// The size that literals have together without those that are superfluous, where it is at most 65,535 and
+/// none of them has more than 1,000 levels, or `None` otherwise.
+fn measure_kept(literals: &[Literal]) -> Option<u64>
+    ensures { (kept : List Literal) → AreKept [] literals.now kept → AreLiteralsMeasured 65535 1000 kept result }
+{
+    let unchanged: [Term; 0] = [];
+    let mut total: u64 = 0;
+    for (i, literal) in literals.iter().enumerate() {
+        if is_superfluous(&literals[..i], literal) {
+            continue;
+        }
+        let room = MAX_SYMBOLS - total;
+        let Some(more) = measure_atom(&literal.atom, unchanged.as_slice(), room, MAX_LEVELS) else {
+            return None;
+        };
+        total += more;
+    }
+    Some(total)
+}
+
+/// The size of the tidy form of a clause, or `None` where it isn't within bounds. Nothing is built, and no
+/// memory is taken.
+pub fn measure_tidied(c: &Clause) -> Option<u64>
+    ensures { (d : Clause) → IsTidied c.now d → AreLiteralsMeasured 65535 1000 d.literals result }
+{
+    measure_kept(c.literals.as_slice())
 }

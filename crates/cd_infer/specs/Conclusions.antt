@@ -6,14 +6,14 @@ use Rattle.cd_names.specs.declared.names.Name.{Name}
 use Rattle.cd_steps.specs.declared.Step.TheVariants.{Resolve}
 use Rattle.cd_steps.specs.Steps.{AreComplementary, resolvent_of}
 use Rattle.cd_infer.specs.declared.Conclusion.{Conclusion}
-use Rattle.cd_infer.specs.Gathered.{Gathered}
-use Rattle.cd_infer.specs.Eligible.{IsEligible}
+use Rattle.cd_list.specs.Lists.{Gathered}
+use Rattle.cd_infer.specs.Eligible.{IsEligibleByPredicate}
 
 -- literal i of a and literal j of b are eligible in their clauses, and complementary
 pub record IsResolvable (a : Clause) (i : ℕ) (b : Clause) (j : ℕ) : Type 0 where
   pub complementary : AreComplementary (slice_get a.literals i) (slice_get b.literals j)
-  pub in_first : IsEligible a i
-  pub in_second : IsEligible b j
+  pub in_first : IsEligibleByPredicate a i
+  pub in_second : IsEligibleByPredicate b j
 
 abbrev pub resolvent : Name → Clause → ℕ → Name → Clause → ℕ → Conclusion
 resolvent a_name a i b_name b j = record { step = Resolve a_name i b_name j []; clause = resolvent_of a i b j }

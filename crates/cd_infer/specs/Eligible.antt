@@ -24,13 +24,13 @@ same_predicate (Some m) None = false
 same_predicate (Some m) (Some n) = m == n
 
 -- the order of literals: by predicates, and of two literals with one predicate the negative is greater
-abbrev pub literal_greater : Literal → Literal → Bool
-literal_greater l m =
+abbrev pub literal_greater_by_predicate : Literal → Literal → Bool
+literal_greater_by_predicate l m =
     predicate_greater (predicate_of l.atom) (predicate_of m.atom)
     || (same_predicate (predicate_of l.atom) (predicate_of m.atom) && (not l.positive && m.positive))
 
 -- literal i is there, and no literal of the clause is greater
-pub record IsEligible (c : Clause) (i : ℕ) : Type 0 where
+pub record IsEligibleByPredicate (c : Clause) (i : ℕ) : Type 0 where
   pub literal : Literal
   pub there : slice_get c.literals i ≡ Some literal
-  pub greatest : list_any (λ m. literal_greater m literal) c.literals ≡ false
+  pub greatest : list_any (λ m. literal_greater_by_predicate m literal) c.literals ≡ false

@@ -7,7 +7,7 @@
 
 ghost use Rattle.std.specs.Prelude.{◌≡◌, ◌↔◌, ◌<◌, ◌++◌, List, length, IsTrue, IfOk, OnOk};
 ghost use Rattle.std.specs.List.{list_any};
-ghost use Rattle.cd_infer.specs.Eligible.{literal_greater, predicate_of, IsEligible};
+ghost use Rattle.cd_infer.specs.Eligible.{literal_greater_by_predicate, predicate_of, IsEligibleByPredicate};
 ghost use Rattle.cd_infer.specs.Conclusions.{IsResolvable, ResolvesAt, ResolvesFrom, PairConcludes, SoloConcludes};
 ghost use Rattle.cd_infer.specs.declared.Conclusion.{Conclusion};
 
@@ -28,8 +28,8 @@ pub type Conclusions = Sequence<Conclusion>;
 
 /// Whether literal `l` is greater than literal `m`: by their predicates, and where these are the same the
 /// negative literal is the greater one. No memory is taken.
-pub fn literal_greater(l: &Literal, m: &Literal) -> bool
-    ensures { result ≡ literal_greater l.now m.now }
+pub fn literal_greater_by_predicate(l: &Literal, m: &Literal) -> bool
+    ensures { result ≡ literal_greater_by_predicate l.now m.now }
 {
     match (predicate_of(&l.atom), predicate_of(&m.atom)) {
         (Some(left), Some(right)) => {
@@ -51,8 +51,8 @@ fn predicate_of(atom: &Atom) -> Option<u16>
 }
 
 /// Whether no literal of the clause is greater than literal `i`. No memory is taken.
-pub fn is_eligible(c: &Clause, i: usize) -> bool
-    ensures { IsTrue result ↔ IsEligible c.now i }
+pub fn is_eligible_by_predicate(c: &Clause, i: usize) -> bool
+    ensures { IsTrue result ↔ IsEligibleByPredicate c.now i }
 {
     match c.literals.get(i) {
         Some(literal) => !any_greater(c.literals.as_slice(), literal),
@@ -61,9 +61,11 @@ pub fn is_eligible(c: &Clause, i: usize) -> bool
 }
 
 fn any_greater(literals: &[Literal], literal: &Literal) -> bool
-    ensures { result ≡ list_any (λ m. literal_greater m literal.now) literals.now }
+    ensures { result ≡ list_any (λ m. literal_greater_by_predicate m literal.now) literals.now }
 {
-    literals.iter().any(|m| literal_greater(m, literal))
+    literals
+        .iter()
+        .any(|m| literal_greater_by_predicate(m, literal))
 }
 
 /// The conclusions of one clause alone.
@@ -148,6 +150,6 @@ fn is_resolvable(a: &Clause, i: usize, b: &Clause, j: usize) -> bool
     ensures { IsTrue result ↔ IsResolvable a.now i b.now j }
 {
     are_complementary(a.literals.get(i), b.literals.get(j))
-        && is_eligible(a, i)
-        && is_eligible(b, j)
+        && is_eligible_by_predicate(a, i)
+        && is_eligible_by_predicate(b, j)
 }

@@ -11,3 +11,5 @@ pub mod TableLemmas
 pub mod BlockLemmas
 pub mod LawsOfOrders
 pub mod Padding
+pub mod Stable
+pub mod Greaters

@@ -1,4 +1,5 @@
 -- Variables taken 64 at a time.
+-- Beyond the headline: no clause of `prove` reaches this file.
 use Rattle.std.specs.Prelude.{ℕ, ◌≡◌, ◌+◌, ◌<◌, ◌≤◌, min, Option, Some, None}
 use Rattle.cd_kbo.specs.declared.sides.Side.{Side}
 use Rattle.cd_kbo.specs.declared.sides.Side.TheVariants.{Variable, Symbol}

@@ -4,3 +4,4 @@ pub mod Sides
 pub mod Kbo
 pub mod Blocks
 pub mod Laws
+pub mod Stable

@@ -1,4 +1,5 @@
 -- Terms and atoms as they are compared.
+-- Beyond the headline: no clause of `prove` reaches this file.
 use Rattle.cd_term.specs.declared.Term.{Term}
 use Rattle.cd_term.specs.declared.Term.TheVariants.{Var, App}
 use Rattle.cd_kbo.specs.declared.sides.Side.{Side}

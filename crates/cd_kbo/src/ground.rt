@@ -90,6 +90,7 @@ fn walk(s: Side, t: Side, order: &Order) -> Compared
 
 /// Compares two terms or atoms in the ground order, in which each variable is read as the constant `bot`. The
 /// answer is `Equal` exactly where they are then the same. No memory is taken, and the time is linear in the sizes.
+/// Recurs to the depth of its terms: see 'How deep terms may be' in docs/ARCHITECTURE.md.
 pub fn side_cmp(s: Side, t: Side, order: &Order) -> Ordering
     requires left { size_of (term_of s) < 2 ^ 32 }
     requires right { size_of (term_of t) < 2 ^ 32 }
@@ -99,6 +100,7 @@ pub fn side_cmp(s: Side, t: Side, order: &Order) -> Ordering
 }
 
 /// Compares two terms in the ground order, as [`side_cmp`].
+/// Recurs to the depth of its terms: see 'How deep terms may be' in docs/ARCHITECTURE.md.
 pub fn ground_cmp(s: &Term, t: &Term, order: &Order) -> Ordering
     requires left { size_of s.now < 2 ^ 32 }
     requires right { size_of t.now < 2 ^ 32 }

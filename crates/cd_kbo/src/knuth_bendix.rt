@@ -139,6 +139,7 @@ fn block_greater(s: Side, t: Side, order: &Order, base: u64) -> bool
 }
 
 /// Whether `s` is greater than `t` in the Knuth-Bendix order, where each is a term or an atom.
+/// Recurs to the depth of its terms: see 'How deep terms may be' in docs/ARCHITECTURE.md.
 pub fn side_greater(s: Side, t: Side, order: &Order) -> bool
     requires left { size_of (term_of s) < 2 ^ 32 }
     requires right { size_of (term_of t) < 2 ^ 32 }
@@ -160,6 +161,7 @@ pub fn side_greater(s: Side, t: Side, order: &Order) -> bool
 
 /// Whether `s` is greater than `t` in the Knuth-Bendix order. No memory is taken. The time is linear in the sizes
 /// where all variables of `t` are below 64, and otherwise at most that for each distinct variable.
+/// Recurs to the depth of its terms: see 'How deep terms may be' in docs/ARCHITECTURE.md.
 pub fn greater(s: &Term, t: &Term, order: &Order) -> bool
     requires left { size_of s.now < 2 ^ 32 }
     requires right { size_of t.now < 2 ^ 32 }

@@ -2,6 +2,7 @@
 //! the law, and the check of this crate proves it.
 #![tactic(auto)]
 
+ghost use Rattle.cd_kbo.specs.Stable.{InstancesStayGreater, GreaterHasVariables, GreaterIsOneWay, OrdersDecide};
 ghost use Rattle.cd_kbo.specs.Laws.{GroundOrderHasLaws, GreaterIsAbove, GroundTermsAgree, NothingIsGreaterThanItself};
 
 /// The ground order is a total order with `bot` least, in which contexts keep what is less.
@@ -14,4 +15,16 @@ pub fn knuth_bendix_order()
     ensures above { GreaterIsAbove }
     ensures ground { GroundTermsAgree }
     ensures irreflexive { NothingIsGreaterThanItself }
+{}
+
+/// What is greater stays greater under a substitution, has every variable of what it is greater than, and isn't smaller.
+pub fn instances()
+    ensures greater { InstancesStayGreater }
+    ensures variables { GreaterHasVariables }
+    ensures one_way { GreaterIsOneWay }
+{}
+
+/// Of two terms the first is greater, or it isn't.
+pub fn decisions()
+    ensures { OrdersDecide }
 {}

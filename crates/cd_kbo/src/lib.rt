@@ -21,6 +21,7 @@ pub use knuth_bendix::{greater, side_greater};
 pub use order::{Numbers, Order, Select};
 pub use sides::Side;
 pub use variables::{least_variable, next_variable};
+pub use weights::weight;
 
 #[cfg(test)]
 mod tests;

@@ -71,6 +71,7 @@ pub fn least_variable(a: Option<u32>, b: Option<u32>) -> Option<u32>
 }
 
 /// The least variable of a term that is no less than `from`, or `None` where there is none.
+/// Recurs to the depth of its terms: see 'How deep terms may be' in docs/ARCHITECTURE.md.
 pub fn next_variable(s: Side, from: u64) -> Option<u32>
     ensures { IsNext from (λ k. occurrences k (term_of s.entry)) result }
 {

@@ -37,7 +37,7 @@ turned_names (Some n) (Some m) = refl
 name_key_total : IsTotalOrder name_key_cmp
 name_key_total = subst IsTotalOrder (λ i n m. turned_names n m i) (back_total (options_total (back_total name_total)))
 
-clause_total : (o : Order) → IsTotalOrder (forms_compare o)
+pub clause_total : (o : Order) → IsTotalOrder (forms_compare o)
 clause_total o = on_total (λ (c : Clause). sorted_down (literal_compare o) c.literals) (lists_total (forms_total o))
 
 key_total : (o : Order) → IsTotalOrder (key_compare o)

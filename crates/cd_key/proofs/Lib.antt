@@ -4,3 +4,4 @@ pub mod FormLemmas
 pub mod RepeatLemmas
 pub mod BoundLemmas
 pub mod FallLemmas
+pub mod Parts

@@ -1,4 +1,5 @@
 -- The laws of literals and keys that other crates build on. Each is the contract of a function of the module
+-- Beyond the headline: no clause of `prove` reaches this file.
 -- `laws`.
 use Rattle.std.specs.Prelude.{ℕ, ◌≡◌, ◌≢◌, Bool, List, ◌∷◌, ◌++◌, Option}
 use Rattle.std.specs.Cmp.{IsTotalOrder}

@@ -4,3 +4,4 @@ pub mod Multisets
 pub mod Repeats
 pub mod Keys
 pub mod Laws
+pub mod Parts

@@ -1,4 +1,5 @@
 -- Literals compared for all values of their variables, and those that inferences are made on.
+-- Beyond the headline: no clause of `prove` reaches this file.
 use Rattle.std.specs.Prelude.{ℕ, ◌≡◌, ◌≢◌, ◌^◌, ◌<◌, true, false, not, ◌⊎◌, List, [], ◌∷◌, All, Option, Some, None, position, slice_get, MatchOption}
 use Rattle.std.specs.List.{AllByRecursion}
 use Rattle.cd_term.specs.declared.Term.{Term}
@@ -8,7 +9,8 @@ use Rattle.cd_clause.specs.declared.Atom.{Atom}
 use Rattle.cd_clause.specs.declared.Atom.TheVariants.{Truth, Pred, Equal}
 use Rattle.cd_clause.specs.declared.Literal.{Literal}
 use Rattle.cd_clause.specs.declared.Clause.{Clause}
-use Rattle.cd_clause.specs.Clauses.{Among, IsSameAtom}
+use Rattle.cd_clause.specs.Clauses.{IsSameAtom}
+use Rattle.cd_list.specs.Lists.{Among}
 use Rattle.cd_kbo.specs.declared.order.Order.{Order}
 use Rattle.cd_kbo.specs.declared.order.Select.{Select}
 use Rattle.cd_kbo.specs.declared.order.Select.TheVariants.{Nothing, First}

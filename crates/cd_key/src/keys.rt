@@ -31,6 +31,7 @@ fn optional_name_cmp(n: Option<Name>, m: Option<Name>) -> Ordering
 ///
 /// A clause may delete another only where its key is smaller. Keys under different names are never equal, so of
 /// two clauses that could delete each other one stays.
+/// Recurs to the depth of its terms: see 'How deep terms may be' in docs/ARCHITECTURE.md.
 pub fn key_cmp(c: &Clause, n: Option<Name>, d: &Clause, m: Option<Name>, order: &Order) -> Ordering
     requires left { AreComparable c.now.literals }
     requires right { AreComparable d.now.literals }

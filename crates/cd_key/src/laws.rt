@@ -2,6 +2,7 @@
 //! contract is the law, and the check of this crate proves it.
 #![tactic(auto)]
 
+ghost use Rattle.cd_key.specs.Parts.{FormsAreOrdered, FormsDecideKeys, FormsFall, FewerFormsFall, RenamedFormsTie};
 ghost use Rattle.cd_key.specs.Laws.{BoundedClausesCompare, LiteralFormsAreOrdered, KeysAreOrdered, NamesDecide, LiteralsFall, KeysFall};
 
 /// Clauses within bounds can be compared.
@@ -21,4 +22,14 @@ pub fn orders()
 pub fn falling()
     ensures literals { LiteralsFall }
     ensures keys { KeysFall }
+{}
+
+/// The first part of the key, the ground forms of the literals, is a total order of its own and decides before the
+/// others. It gets smaller with one of the literals and without one, and stays the same where variables are renamed.
+pub fn first_parts()
+    ensures ordered { FormsAreOrdered }
+    ensures decide { FormsDecideKeys }
+    ensures fall { FormsFall }
+    ensures fewer { FewerFormsFall }
+    ensures renamed { RenamedFormsTie }
 {}

@@ -4,7 +4,7 @@
 ghost use Rattle.std.specs.Prelude.{◌≡◌, ◌≢◌, ◌^◌, ◌<◌, ◌↔◌, [], IsTrue};
 ghost use Rattle.std.specs.List.{AllByRecursion};
 ghost use Rattle.cd_term.specs.Terms.{size_of};
-ghost use Rattle.cd_clause.specs.Clauses.{Among};
+ghost use Rattle.cd_list.specs.Lists.{Among};
 ghost use Rattle.cd_kbo.specs.Kbo.{Greater};
 ghost use Rattle.cd_kbo.specs.Sides.{term_of};
 ghost use Rattle.cd_key.specs.Literals.{sides, HasSmallSides, IsLiteralGreater};
@@ -55,6 +55,7 @@ fn has_side_above(l: &Atom, m: &Atom, order: &Order) -> bool
 /// and the second has a side; or their atoms are equal up to the exchange of an equation's sides, the first is
 /// negative and the second positive. The sides of a predicate literal are its atom, those of an equation its
 /// two terms, and `$true` has none.
+/// Recurs to the depth of its terms: see 'How deep terms may be' in docs/ARCHITECTURE.md.
 pub fn literal_greater(l: &Literal, m: &Literal, order: &Order) -> bool
     requires left { HasSmallSides l.now.atom }
     requires right { HasSmallSides m.now.atom }

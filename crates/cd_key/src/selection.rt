@@ -46,6 +46,7 @@ fn is_maximal(literals: &[Literal], place: usize, order: &Order) -> bool
 /// Whether inferences are made on literal `i` of a clause: where the order selects a literal, it is that one, and
 /// otherwise no other literal is greater than it (Bachmair and Ganzinger, Rewrite-based equational theorem
 /// proving with selection and simplification, 1994).
+/// Recurs to the depth of its terms: see 'How deep terms may be' in docs/ARCHITECTURE.md.
 pub fn eligible(c: &Clause, i: u16, order: &Order) -> bool
     requires place { i < length c.now.literals }
     requires literals { AreComparable c.now.literals }

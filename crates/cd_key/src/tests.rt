@@ -1,171 +1,175 @@
 //! Small clauses, with answers found from the rules.
+#![tactic(auto)]
+
 use crate::{eligible, key_cmp, laws, literal_greater};
 use cd_clause::{Atom, Clause, Literal, Literals, within};
 use cd_kbo::{Order, Select};
-use cd_list::{Copied, Sequence};
 use cd_names::Name;
 use cd_term::{Args, Term};
 use std::alloc::{AllocError, Global};
 use std::cmp::Ordering;
 use std::test::Fail;
 
-fn constant(alloc: Global, f: u16) -> Term {
-    Term::App(f, Sequence::new(alloc))
-}
-
-fn unary(alloc: Global, f: u16, arg: Term) -> Result<Term, AllocError> {
+/// The term whose head is a sign, with arguments from the end of a list: two for `=`, one for `f`, `p` and `q`, and
+/// none for another letter. A digit is a variable.
+fn headed(alloc: Global, symbol: u8, rest: &mut Args) -> Result<Term, AllocError> {
+    if symbol.is_ascii_digit() {
+        return Ok(Term::Var(u32::from(symbol - b'0')));
+    }
+    let count = match symbol {
+        b'=' => 2,
+        b'f' | b'p' | b'q' => 1,
+        _ => 0,
+    };
     let mut args = Args::new(alloc);
-    args.push(arg)?;
-    Ok(Term::App(f, args))
+    for _ in 0..count {
+        if let Some(arg) = rest.pop() {
+            args.push(arg)?;
+        }
+    }
+    Ok(Term::App(u16::from(symbol), args))
 }
 
-/// A literal of a predicate with one argument.
-fn predicate(alloc: Global, positive: bool, p: u16, arg: Term) -> Result<Literal, AllocError> {
-    let mut args = Args::new(alloc);
-    args.push(arg)?;
-    Ok(Literal {
-        positive,
-        atom: Atom::Pred(p, args),
-    })
-}
-
-fn equation(positive: bool, left: Term, right: Term) -> Literal {
-    Literal {
-        positive,
-        atom: Atom::Equal(left, right),
+/// A term looked at as an atom: an equation where its head is `=`, and `$true` for `t`.
+fn atom(term: Term) -> Atom {
+    match term {
+        Term::App(61, mut args) => match (args.pop(), args.pop()) {
+            (Some(right), Some(left)) => Atom::Equal(left, right),
+            _ => Atom::Truth,
+        },
+        Term::App(116, _) | Term::Var(_) => Atom::Truth,
+        Term::App(p, args) => Atom::Pred(p, args),
     }
 }
 
-fn clause(alloc: Global, literals: &[&Literal]) -> Result<Clause, AllocError> {
-    let mut copies = Literals::new(alloc);
-    for literal in literals {
-        copies.push(literal.copy(alloc)?)?;
+/// The clause of the literals that a text spells without brackets, each with its sign before it.
+fn clause(alloc: Global, text: &str) -> Result<Clause, AllocError> {
+    let mut literals = Literals::new(alloc);
+    let mut found = Args::new(alloc);
+    for symbol in text.as_bytes().iter().rev() {
+        let positive = *symbol == b'+';
+        if positive || *symbol == b'-' {
+            let atom = atom(found.pop().unwrap_or(Term::Var(0)));
+            literals.push(Literal { positive, atom })?;
+        } else {
+            let term = headed(alloc, *symbol, &mut found)?;
+            found.push(term)?;
+        }
     }
-    Ok(Clause { literals: copies })
+    literals.reverse();
+    Ok(Clause { literals })
 }
 
 /// Whether literal `i` of a clause within bounds is greater than literal `j`.
-fn is_greater(c: &Clause, i: usize, j: usize, order: &Order) -> bool {
+fn is_greater(alloc: Global, text: &str, i: usize, j: usize) -> Result<bool, AllocError> {
+    let c = clause(alloc, text)?;
     let literals = c.literals.as_slice();
-    if !within(c) || i >= literals.len() || j >= literals.len() {
-        return false;
+    if !within(&c) || i >= literals.len() || j >= literals.len() {
+        return Ok(false);
     }
     laws::bounded_clauses();
-    literal_greater(&literals[i], &literals[j], order)
+    Ok(literal_greater(&literals[i], &literals[j], &Order::plain(alloc)))
 }
 
 /// Whether literal `i` of a clause within bounds is eligible.
-fn is_eligible(c: &Clause, i: u16, order: &Order) -> bool {
-    if !within(c) || usize::from(i) >= c.literals.len() {
-        return false;
+fn is_eligible(alloc: Global, text: &str, i: u16, select: Select) -> Result<bool, AllocError> {
+    let c = clause(alloc, text)?;
+    let mut order = Order::plain(alloc);
+    order.select = select;
+    if !within(&c) || usize::from(i) >= c.literals.len() {
+        return Ok(false);
     }
     laws::bounded_clauses();
-    eligible(c, i, order)
+    Ok(eligible(&c, i, &order))
+}
+
+/// A name by its number, and none for 0.
+fn named(seq: u32) -> Option<Name> {
+    if seq == 0 {
+        None
+    } else {
+        Some(Name { peer: 0, seq })
+    }
 }
 
 /// How the keys of two clauses within bounds compare, under names of one peer.
-fn keys(c: &Clause, n: Option<u32>, d: &Clause, m: Option<u32>, order: &Order) -> Option<Ordering> {
-    if !within(c) || !within(d) {
-        return None;
+fn keys(alloc: Global, c: &str, n: u32, d: &str, m: u32) -> Result<Option<Ordering>, AllocError> {
+    let c = clause(alloc, c)?;
+    let d = clause(alloc, d)?;
+    if !within(&c) || !within(&d) {
+        return Ok(None);
     }
     laws::bounded_clauses();
-    Some(key_cmp(c, named(n), d, named(m), order))
-}
-
-fn named(seq: Option<u32>) -> Option<Name> {
-    match seq {
-        None => None,
-        Some(seq) => Some(Name { peer: 0, seq }),
-    }
+    Ok(Some(key_cmp(&c, named(n), &d, named(m), &Order::plain(alloc))))
 }
 
 #[test]
 fn literals_by_sides_and_signs(rt: HostRuntime) -> Result<(), Fail> {
     let alloc = rt.alloc();
-    let plain = Order::plain(alloc);
-    // p(X0), ~p(X0), p(X1), f(f(X0)) = X0, X0 != f(f(X0)), $true, $false
-    let truth = Literal {
-        positive: true,
-        atom: Atom::Truth,
-    };
-    let falsehood = Literal {
-        positive: false,
-        atom: Atom::Truth,
-    };
-    let positive = predicate(alloc, true, 2, Term::Var(0))?;
-    let negative = predicate(alloc, false, 2, Term::Var(0))?;
-    let other = predicate(alloc, true, 2, Term::Var(1))?;
-    let ffx = unary(alloc, 0, unary(alloc, 0, Term::Var(0))?)?;
-    let equal = equation(true, ffx.copy(alloc)?, Term::Var(0));
-    let unequal = equation(false, Term::Var(0), ffx);
-    let all = [
-        &positive, &negative, &other, &equal, &unequal, &truth, &falsehood,
-    ];
-    let c = clause(alloc, all.as_slice())?;
-    assert!(rt; is_greater(&c, 1, 0, &plain) && !is_greater(&c, 0, 1, &plain));
-    assert!(rt; !is_greater(&c, 1, 2, &plain) && !is_greater(&c, 2, 1, &plain));
-    assert!(rt; is_greater(&c, 3, 0, &plain) && !is_greater(&c, 3, 2, &plain));
-    assert!(rt; is_greater(&c, 4, 3, &plain) && !is_greater(&c, 3, 4, &plain));
-    assert!(rt; !is_greater(&c, 0, 5, &plain) && !is_greater(&c, 5, 0, &plain));
-    assert!(rt; is_greater(&c, 6, 5, &plain) && !is_greater(&c, 5, 6, &plain));
+    for (i, j, wanted) in [
+        (1, 0, true),
+        (0, 1, false),
+        (1, 2, false),
+        (2, 1, false),
+        (3, 0, true),
+        (3, 2, false),
+        (4, 3, true),
+        (3, 4, false),
+        (0, 5, false),
+        (5, 0, false),
+        (6, 5, true),
+        (5, 6, false),
+    ] {
+        let text = "+p0-p0+p1+=ff00-=0ff0+t-t";
+        assert!(rt; is_greater(alloc, text, i, j)? == wanted, "{i} {j}");
+    }
     Ok(())
 }
 
 #[test]
 fn maximal_and_selected_literals(rt: HostRuntime) -> Result<(), Fail> {
     let alloc = rt.alloc();
-    let mut order = Order::plain(alloc);
-    // p(X0) | ~q(f(X0)) | ~p(X1)
-    let small = predicate(alloc, true, 2, Term::Var(0))?;
-    let large = predicate(alloc, false, 3, unary(alloc, 0, Term::Var(0))?)?;
-    let apart = predicate(alloc, false, 2, Term::Var(1))?;
-    let c = clause(alloc, [&small, &apart, &large].as_slice())?;
-    let d = clause(alloc, [&small].as_slice())?;
-    assert!(rt; !is_eligible(&c, 0, &order));
-    assert!(rt; is_eligible(&c, 1, &order) && is_eligible(&c, 2, &order));
-    order.select = Select::First;
-    assert!(rt; !is_eligible(&c, 0, &order) && is_eligible(&c, 1, &order));
-    assert!(rt; !is_eligible(&c, 2, &order) && is_eligible(&d, 0, &order));
+    for (text, i, select, wanted) in [
+        ("+p0-p1-qf0", 0, Select::Nothing, false),
+        ("+p0-p1-qf0", 1, Select::Nothing, true),
+        ("+p0-p1-qf0", 2, Select::Nothing, true),
+        ("+p0-p1-qf0", 0, Select::First, false),
+        ("+p0-p1-qf0", 1, Select::First, true),
+        ("+p0-p1-qf0", 2, Select::First, false),
+        ("+p0", 0, Select::First, true),
+    ] {
+        assert!(rt;
+            is_eligible(alloc, text, i, select)? == wanted,
+            "{text} {i}"
+        );
+    }
     Ok(())
 }
 
 #[test]
 fn keys_by_literals_repeats_and_names(rt: HostRuntime) -> Result<(), Fail> {
     let alloc = rt.alloc();
-    let plain = Order::plain(alloc);
-    let pa = predicate(alloc, true, 2, constant(alloc, 4))?;
-    let na = predicate(alloc, false, 2, constant(alloc, 4))?;
-    let px = predicate(alloc, true, 2, Term::Var(0))?;
-    let qfa = predicate(alloc, true, 3, unary(alloc, 0, constant(alloc, 4))?)?;
-    let ab = equation(true, constant(alloc, 4), constant(alloc, 5));
-    let ba = equation(true, constant(alloc, 5), constant(alloc, 4));
-    let xx = equation(true, Term::Var(0), Term::Var(0));
-    let xy = equation(true, Term::Var(0), Term::Var(1));
-    let one = clause(alloc, [&pa].as_slice())?;
-    let two = clause(alloc, [&pa, &pa].as_slice())?;
-    let mixed = clause(alloc, [&pa, &qfa, &px].as_slice())?;
-    let turned = clause(alloc, [&px, &pa, &qfa].as_slice())?;
-    let less = Some(Ordering::Less);
-    let equal = Some(Ordering::Equal);
-    let greater = Some(Ordering::Greater);
-    // a proper prefix is smaller, and the greatest literal decides
-    assert!(rt; keys(&one, Some(9), &two, Some(1), &plain) == less);
-    assert!(rt; keys(&two, Some(1), &mixed, Some(9), &plain) == less);
-    assert!(rt; keys(&mixed, Some(1), &two, Some(9), &plain) == greater);
-    // a negative literal is greater, and `bot` is least
-    assert!(rt; keys(&clause(alloc, [&na].as_slice())?, None, &one, None, &plain) == greater);
-    assert!(rt; keys(&clause(alloc, [&px].as_slice())?, None, &one, None, &plain) == less);
-    // the order of literals and of sides does not count, and then names decide
-    assert!(rt; keys(&mixed, None, &turned, None, &plain) == equal);
-    assert!(rt; keys(&mixed, Some(3), &turned, Some(2), &plain) == greater);
-    assert!(rt; keys(&mixed, Some(3), &turned, None, &plain) == less);
-    let left = clause(alloc, [&ab].as_slice())?;
-    let right = clause(alloc, [&ba].as_slice())?;
-    assert!(rt; keys(&left, Some(1), &right, Some(1), &plain) == equal);
-    // repeated variables count before names
-    let repeated = clause(alloc, [&xx].as_slice())?;
-    let distinct = clause(alloc, [&xy].as_slice())?;
-    assert!(rt; keys(&repeated, Some(1), &distinct, Some(2), &plain) == greater);
-    assert!(rt; keys(&distinct, None, &repeated, Some(2), &plain) == less);
+    for (c, n, d, m, wanted) in [
+        // a proper prefix is smaller, and the greatest literal decides
+        ("+pa", 9, "+pa+pa", 1, Ordering::Less),
+        ("+pa+pa", 1, "+pa+qfa+p0", 9, Ordering::Less),
+        ("+pa+qfa+p0", 1, "+pa+pa", 9, Ordering::Greater),
+        // a negative literal is greater, and `bot` is least
+        ("-pa", 0, "+pa", 0, Ordering::Greater),
+        ("+p0", 0, "+pa", 0, Ordering::Less),
+        // the order of literals and of sides does not count, and then names decide
+        ("+pa+qfa+p0", 0, "+p0+pa+qfa", 0, Ordering::Equal),
+        ("+pa+qfa+p0", 3, "+p0+pa+qfa", 2, Ordering::Greater),
+        ("+pa+qfa+p0", 3, "+p0+pa+qfa", 0, Ordering::Less),
+        ("+=ab", 1, "+=ba", 1, Ordering::Equal),
+        // repeated variables count before names
+        ("+=00", 1, "+=01", 2, Ordering::Greater),
+        ("+=01", 0, "+=00", 2, Ordering::Less),
+    ] {
+        assert!(rt;
+            keys(alloc, c, n, d, m)? == Some(wanted),
+            "{c} {n} | {d} {m}"
+        );
+    }
     Ok(())
 }

@@ -5,7 +5,7 @@ use Rattle.std.proofs.lemmas.Bool.Decides.{nat_tests}
 use Rattle.std.proofs.lemmas.List.{length-append}
 use Rattle.std.proofs.lemmas.Option.{slice_get_within}
 use Rattle.std.proofs.lemmas.Bool.{and_parts, lt-ltb, eqb-true}
-use Rattle.cd_ledger.proofs.NameLemmas.{equal_names, same_name}
+use Rattle.cd_names.proofs.NameLemmas.{equal_names, same_name}
 use Rattle.cd_names.specs.declared.names.Name.{Name}
 use Rattle.cd_clause.specs.declared.Clause.{Clause}
 use Rattle.cd_steps.specs.declared.Step.{Step}
@@ -30,14 +30,15 @@ use Rattle.cd_ledger.specs.declared.Outcome.TheVariants.{Named, Trivial, Subsume
 use Rattle.cd_ledger.specs.declared.Settled.{Settled}
 use Rattle.cd_ledger.specs.declared.Task.{Task}
 use Rattle.cd_ledger.specs.declared.Task.TheVariants.{Solo, Pair}
-use Rattle.cd_ledger.specs.Counts.{tally}
-use Rattle.cd_ledger.specs.Names.{name_eq, look}
+use Rattle.cd_list.specs.Lists.{tally}
+use Rattle.cd_ledger.specs.Names.{look}
+use Rattle.cd_names.specs.Names.{name_eq}
 use Rattle.cd_ledger.specs.Machine.{IsItemOf, AreInputItems, AreTaskItems, IsStart, IsFirstSubsumer, name_of, next_name, tasks_of, recorded_item, settlement, dropped, kept, Yield, IsYield, worked, Concludes, Found, Fits, acted, after}
 use Rattle.cd_ledger.specs.World.{World, Run, WorldStep}
 use Rattle.cd_list.proofs.Lists.{all_append, all_remove, all_weaker, all_get, all_set, get_at, found_at, find_left}
 use Rattle.cd_laws.specs.Accounts.{task_eq, is_conclusion, BeginsWith, IsReplayed, Lead, OutcomeHolds, IsEntryRight, IsItemKept, IsEntryKept, IsTaskDone, IsAccounted, IsLiveName, AreAccounted, RunsAreAccounted}
 use Rattle.cd_ledger.proofs.FewLemmas.{each_gathered}
-use Rattle.cd_ledger.proofs.Tally.{tally_append, tally_push, tally_map, tally_remove, tally_none, tally_and_right, tally_and_left, product, passing, tally_agree}
+use Rattle.cd_list.proofs.Tally.{tally_append, tally_push, tally_map, tally_remove, tally_none, tally_and_right, tally_and_left, product, passing, tally_agree}
 use Rattle.cd_laws.proofs.SameConclusions.{concludes_same}
 
 -- ---- names and tasks

@@ -25,7 +25,8 @@ use Rattle.cd_ledger.specs.declared.Origin.TheVariants as origin
 use Rattle.cd_ledger.specs.declared.Outcome.TheVariants.{Named, Trivial, Subsumed}
 use Rattle.cd_ledger.specs.declared.Task.{Task}
 use Rattle.cd_ledger.specs.declared.Task.TheVariants.{Solo, Pair}
-use Rattle.cd_ledger.specs.Names.{name_eq, look}
+use Rattle.cd_ledger.specs.Names.{look}
+use Rattle.cd_names.specs.Names.{name_eq}
 use Rattle.cd_ledger.specs.Machine.{IsItemOf, AreTaskItems, IsStart, recorded_item, Concludes, Found, Fits, acted, after}
 use Rattle.cd_ledger.specs.World.{World, Run, WorldStep}
 use Rattle.cd_list.proofs.Lists.{all_append, all_remove, all_get, all_find, all_set}

@@ -5,7 +5,7 @@ use Rattle.std.proofs.lemmas.Bool.{or_cases, or_left, or_right}
 use Rattle.cd_list.proofs.Numbers.{equal_itself}
 use Rattle.cd_clause.specs.declared.Clause.{Clause}
 use Rattle.cd_clause.specs.Truth.{Interp, IsInterp, Holds, Models, literal_true}
-use Rattle.cd_clause.specs.Clauses.{Among}
+use Rattle.cd_list.specs.Lists.{Among}
 use Rattle.cd_clause.specs.declared.Literal.{Literal}
 use Rattle.cd_clause.proofs.TidyLemmas.{tidy_holds, tautology_holds}
 use Rattle.cd_names.specs.declared.names.Name.{Name}
@@ -29,7 +29,8 @@ use Rattle.cd_ledger.specs.declared.Origin.TheVariants as origin
 use Rattle.cd_ledger.specs.declared.Outcome.TheVariants.{Named, Trivial, Subsumed}
 use Rattle.cd_ledger.specs.declared.Task.{Task}
 use Rattle.cd_ledger.specs.declared.Task.TheVariants.{Solo, Pair}
-use Rattle.cd_ledger.specs.Names.{name_eq, look}
+use Rattle.cd_ledger.specs.Names.{look}
+use Rattle.cd_names.specs.Names.{name_eq}
 use Rattle.cd_ledger.specs.declared.Record.{Record}
 use Rattle.cd_ledger.specs.Machine.{IsItemOf, AreInputItems, AreTaskItems, IsStart, Subsumes, IsFirstSubsumer, recorded_item, IsQuiet, Concludes, Found, Fits, acted, after}
 use Rattle.cd_ledger.specs.World.{World, Run, WorldStep, IsStartWorld}

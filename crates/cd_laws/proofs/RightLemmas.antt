@@ -4,7 +4,7 @@ use Rattle.std.specs.List.{AllByRecursion, range_with_len}
 use Rattle.std.proofs.lemmas.List.{length-append, length-map}
 use Rattle.std.proofs.lemmas.Option.{slice_get-map, slice_get_within}
 use Rattle.std.specs.Option.{option_map}
-use Rattle.cd_ledger.proofs.NameLemmas.{equal_names}
+use Rattle.cd_names.proofs.NameLemmas.{equal_names}
 use Rattle.cd_clause.specs.declared.Clause.{Clause}
 use Rattle.cd_clause.specs.declared.Literal.{Literal}
 use Rattle.cd_clause.specs.Clauses.{IsTautology}
@@ -16,7 +16,8 @@ use Rattle.cd_infer.specs.declared.Conclusion.{Conclusion}
 use Rattle.cd_infer.specs.Conclusions.{ResolvesAt, ResolvesFrom, PairConcludes}
 use Rattle.cd_read.specs.declared.problem.Problem.{Problem}
 use Rattle.cd_read.specs.declared.problem.Input.{Input as ProblemInput}
-use Rattle.cd_read.specs.Problems.{IsPropositional, ArePropositional}
+use Rattle.cd_read.specs.Problems.{ArePropositional}
+use Rattle.cd_clause.specs.Propositional.{IsPropositional}
 use Rattle.cd_ledger.specs.declared.Act.{Act}
 use Rattle.cd_ledger.specs.declared.Act.TheVariants.{Keep, Work, Declare, End}
 use Rattle.cd_ledger.specs.declared.Event.{Event}
@@ -33,7 +34,8 @@ use Rattle.cd_ledger.specs.declared.Task.{Task}
 use Rattle.cd_ledger.specs.declared.Task.TheVariants.{Solo, Pair}
 use Rattle.cd_ledger.specs.declared.Verdict.{Verdict}
 use Rattle.cd_ledger.specs.declared.Verdict.TheVariants.{Refuted, Saturated, Spent}
-use Rattle.cd_ledger.specs.Names.{name_eq, look}
+use Rattle.cd_ledger.specs.Names.{look}
+use Rattle.cd_names.specs.Names.{name_eq}
 use Rattle.cd_ledger.specs.Machine.{IsItemOf, AreInputItems, AreTaskItems, IsStart, next_name, recorded_item, dropped, kept, is_empty, Concludes, Found, Fits, acted, after}
 use Rattle.cd_ledger.specs.Lean.{IsCandidate, IsUsable}
 use Rattle.cd_ledger.specs.World.{World, Run, WorldStep, has_empty}

@@ -1,4 +1,5 @@
 -- Every inference between live clauses is accounted for.
+-- Beyond the headline: no clause of `prove` reaches RunsAreAccounted.
 use Rattle.std.specs.Prelude.{◌≡◌, ◌⊎◌, ℕ, ◌+◌, Bool, false, ◌&&◌, ◌==◌, List, [], ◌∷◌, length, Option, None, Some, slice_get, IsTrue}
 use Rattle.std.specs.List.{AllByRecursion}
 use Rattle.cd_clause.specs.declared.Clause.{Clause}
@@ -22,8 +23,9 @@ use Rattle.cd_ledger.specs.declared.Outcome.TheVariants.{Named, Trivial, Subsume
 use Rattle.cd_ledger.specs.declared.Settled.{Settled}
 use Rattle.cd_ledger.specs.declared.Task.{Task}
 use Rattle.cd_ledger.specs.declared.Task.TheVariants.{Solo, Pair}
-use Rattle.cd_ledger.specs.Names.{name_eq, look}
-use Rattle.cd_ledger.specs.Counts.{tally}
+use Rattle.cd_ledger.specs.Names.{look}
+use Rattle.cd_names.specs.Names.{name_eq}
+use Rattle.cd_list.specs.Lists.{tally}
 use Rattle.cd_ledger.specs.Machine.{Concludes, Subsumes}
 use Rattle.cd_ledger.specs.World.{World, Runs}
 use Rattle.cd_laws.specs.Models.{is_live_at}

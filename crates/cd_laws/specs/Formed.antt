@@ -1,4 +1,5 @@
 -- Every clause that a peer holds is over the problem's symbols.
+-- Beyond the headline: no clause of `prove` reaches this file.
 use Rattle.std.specs.Prelude.{List}
 use Rattle.std.specs.List.{AllByRecursion}
 use Rattle.cd_read.specs.declared.problem.Problem.{Problem}

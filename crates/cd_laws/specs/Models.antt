@@ -1,4 +1,5 @@
 -- The clauses that the peers carry have exactly the models of the input.
+-- Beyond the headline: no clause of `prove` reaches RunsKeepModels, ClosedRunsKeepModels.
 use Rattle.std.specs.Prelude.{◌↔◌, ℕ, Bool, true, ◌&&◌, ◌==◌, List, ◌++◌, map, filter}
 use Rattle.std.specs.List.{flat_map}
 use Rattle.cd_clause.specs.declared.Clause.{Clause}

@@ -1,4 +1,6 @@
 -- Right records: each stands on the inputs and on records before it, by right steps.
+-- Beyond the headline: no clause of `prove` reaches IsNamed, IsStepRight, AreStepsRight, IsRecordRight,
+--   AreRecordsRight, EndsRight, IsRight, RunsAreRight.
 use Rattle.std.specs.Prelude.{◌≡◌, ℕ, ◌<◌, ◌≤◌, true, false, List, [], ◌∷◌, ◌++◌, length, map, Option, None, Some, slice_get}
 use Rattle.std.specs.List.{AllByRecursion}
 use Rattle.cd_clause.specs.declared.Clause.{Clause}

@@ -11,14 +11,15 @@ use Rattle.cd_clause.specs.declared.Literal.{Literal}
 use Rattle.cd_clause.specs.declared.Clause.{Clause}
 use Rattle.cd_names.specs.declared.names.Name.{Name}
 use Rattle.cd_infer.specs.declared.Conclusion.{Conclusion}
-use Rattle.cd_infer.specs.Eligible.{predicate_of, same_predicate, literal_greater, IsEligible}
-use Rattle.cd_infer.specs.Gathered.{Gathered}
+use Rattle.cd_infer.specs.Eligible.{predicate_of, same_predicate, literal_greater_by_predicate, IsEligibleByPredicate}
+use Rattle.cd_list.specs.Lists.{Gathered}
 use Rattle.cd_infer.specs.Conclusions.{ResolvesAt, ResolvesFrom, PairConcludes}
-use Rattle.cd_read.specs.Problems.{IsPropositionalAtom, IsPropositional}
+use Rattle.cd_clause.specs.Propositional.{IsPropositionalAtom, IsPropositional}
 use Rattle.cd_ledger.specs.declared.Known.{Known}
 use Rattle.cd_ledger.specs.declared.Task.{Task}
 use Rattle.cd_ledger.specs.declared.Task.TheVariants.{Solo, Pair}
-use Rattle.cd_ledger.specs.Names.{name_eq, look}
+use Rattle.cd_ledger.specs.Names.{look}
+use Rattle.cd_names.specs.Names.{name_eq}
 use Rattle.cd_ledger.specs.Machine.{Concludes}
 use Rattle.cd_ledger.specs.Lean.{has_predicate, IsLean, IsUsable}
 use Rattle.cd_list.proofs.Lists.{all_append, all_remove, all_find, all_get}
@@ -68,17 +69,17 @@ predicate_at Truth is = absurd is
 predicate_at (Pred n args) is = (n, refl)
 predicate_at (Equal s t) is = absurd is
 
-greater_by : (l m : Literal) (p q : ℕ) → predicate_of l.atom ≡ Some p → predicate_of m.atom ≡ Some q → literal_greater l m ≡ (nat_lt q p || ((p == q) && (not l.positive && m.positive)))
+greater_by : (l m : Literal) (p q : ℕ) → predicate_of l.atom ≡ Some p → predicate_of m.atom ≡ Some q → literal_greater_by_predicate l m ≡ (nat_lt q p || ((p == q) && (not l.positive && m.positive)))
 greater_by l m p q at_l at_m = rw (at_l, at_m) refl
 
-pub one_eligible : (c : Clause) (i j : ℕ) → IsPropositional c → IsLean c → IsEligible c i → IsEligible c j → i ≡ j
+pub one_eligible : (c : Clause) (i j : ℕ) → IsPropositional c → IsLean c → IsEligibleByPredicate c i → IsEligibleByPredicate c j → i ≡ j
 one_eligible c i j is lean e f =
     let l = e.literal in
     let m = f.literal in
     let p = predicate_at l.atom (all_get (λ x. IsPropositionalAtom x.atom) c.literals i l is e.there) in
     let q = predicate_at m.atom (all_get (λ x. IsPropositionalAtom x.atom) c.literals j m is f.there) in
-    let over : literal_greater m l ≡ false = not_greater (λ x. literal_greater x l) c.literals j m f.there e.greatest in
-    let under : literal_greater l m ≡ false = not_greater (λ x. literal_greater x m) c.literals i l e.there f.greatest in
+    let over : literal_greater_by_predicate m l ≡ false = not_greater (λ x. literal_greater_by_predicate x l) c.literals j m f.there e.greatest in
+    let under : literal_greater_by_predicate l m ≡ false = not_greater (λ x. literal_greater_by_predicate x m) c.literals i l e.there f.greatest in
     let same : q.0 ≡ p.0 = neither q.0 p.0 m.positive l.positive (sym (greater_by m l q.0 p.0 q.1 p.1) ∙ over) (sym (greater_by l m p.0 q.0 p.1 q.1) ∙ under) in
     let has : has_predicate p.0 l ≡ true = ap (same_predicate (Some p.0)) p.1 ∙ equal_itself p.0 in
     let too : has_predicate p.0 m ≡ true = ap (same_predicate (Some p.0)) q.1 ∙ ap (λ (k : ℕ). p.0 == k) same ∙ equal_itself p.0 in
@@ -90,7 +91,7 @@ at_few : (m n : Name) (a b : Clause) (i j : ℕ) (part : List Conclusion) → Re
 at_few m n a b i j part (inl r) = subst (λ (l : List Conclusion). length l ≤ 1) (sym r.1) (omega arith)
 at_few m n a b i j part (inr r) = subst (λ (l : List Conclusion). length l ≤ 1) (sym r.1) (omega arith)
 
-at_eligible : (m n : Name) (a b : Clause) (i j : ℕ) (part : List Conclusion) → ResolvesAt m a n b i j part → part ≢ [] → IsEligible a i × IsEligible b j
+at_eligible : (m n : Name) (a b : Clause) (i j : ℕ) (part : List Conclusion) → ResolvesAt m a n b i j part → part ≢ [] → IsEligibleByPredicate a i × IsEligibleByPredicate b j
 at_eligible m n a b i j part (inl r) some = (r.0.in_first, r.0.in_second)
 at_eligible m n a b i j part (inr r) some = absurd (some r.1)
 
@@ -103,8 +104,8 @@ some_gathered {X} P R (k ∷ ks) xs each g some = by g.0 refl (some_gathered P R
     by [] is later = later (λ none. some (g.4 ∙ ap (λ (l : List X). l ++ g.1) is ∙ none))
     by (x ∷ part) is later = each k g.0 g.2 (λ none. cc (is, none))
 
-from_eligible : (m n : Name) (a b : Clause) (i : ℕ) (part : List Conclusion) → ResolvesFrom m a n b i part → part ≢ [] → IsEligible a i
-from_eligible m n a b i part g some = some_gathered (IsEligible a i) (ResolvesAt m a n b i) (range_with_len 0 (length b.literals)) part (λ j q r more. (at_eligible m n a b i j q r more).0) g some
+from_eligible : (m n : Name) (a b : Clause) (i : ℕ) (part : List Conclusion) → ResolvesFrom m a n b i part → part ≢ [] → IsEligibleByPredicate a i
+from_eligible m n a b i part g some = some_gathered (IsEligibleByPredicate a i) (ResolvesAt m a n b i) (range_with_len 0 (length b.literals)) part (λ j q r more. (at_eligible m n a b i j q r more).0) g some
 
 from_few : (m n : Name) (a b : Clause) (i : ℕ) (part : List Conclusion) → IsPropositional b → IsLean b → ResolvesFrom m a n b i part → length part ≤ 1
 from_few m n a b i part is lean g =

@@ -8,12 +8,12 @@ use Rattle.cd_clause.specs.declared.Atom.{Atom}
 use Rattle.cd_clause.specs.declared.Atom.TheVariants.{Truth, Pred, Equal}
 use Rattle.cd_clause.specs.declared.Literal.{Literal}
 use Rattle.cd_clause.specs.declared.Clause.{Clause}
-use Rattle.cd_clause.specs.Clauses.{Among, IsSameLiteral, AreOpposite, IsTautology}
+use Rattle.cd_clause.specs.Clauses.{IsSameLiteral, AreOpposite, IsTautology, HasNoRepeat}
+use Rattle.cd_list.specs.Lists.{Among, tally, AllPairs}
 use Rattle.cd_infer.specs.Eligible.{predicate_of, same_predicate}
-use Rattle.cd_read.specs.Problems.{IsPropositionalAtom, IsPropositional}
-use Rattle.cd_ledger.specs.Counts.{tally}
-use Rattle.cd_ledger.specs.Lean.{AllPairs, HasNoRepeat, has_predicate, IsLean}
-use Rattle.cd_ledger.proofs.Tally.{tally_fails}
+use Rattle.cd_clause.specs.Propositional.{IsPropositionalAtom, IsPropositional}
+use Rattle.cd_ledger.specs.Lean.{has_predicate, IsLean}
+use Rattle.cd_list.proofs.Tally.{tally_fails}
 
 -- ---- one atom a predicate
 

@@ -8,18 +8,19 @@ use Rattle.cd_clause.specs.declared.Atom.{Atom}
 use Rattle.cd_clause.specs.declared.Atom.TheVariants.{Truth, Pred, Equal}
 use Rattle.cd_clause.specs.declared.Literal.{Literal}
 use Rattle.cd_clause.specs.declared.Clause.{Clause}
-use Rattle.cd_clause.specs.Clauses.{Among, atom_changed, literal_changed, literals_changed, clause_terms, IsSameLiteral, AreKept, IsTidied}
+use Rattle.cd_clause.specs.Clauses.{atom_changed, literal_changed, literals_changed, clause_terms, IsSameLiteral, AreKept, IsTidied, HasNoRepeat}
+use Rattle.cd_list.specs.Lists.{Among, AllPairs}
 use Rattle.cd_steps.specs.declared.Step.{Step}
 use Rattle.cd_steps.specs.declared.Step.TheVariants as step
 use Rattle.cd_infer.specs.declared.Conclusion.{Conclusion}
 use Rattle.cd_read.specs.declared.problem.Input.{Input as ProblemInput}
-use Rattle.cd_read.specs.Problems.{IsPropositionalAtom, IsPropositional}
+use Rattle.cd_clause.specs.Propositional.{IsPropositionalAtom, IsPropositional}
 use Rattle.cd_ledger.specs.declared.Item.{Item}
 use Rattle.cd_ledger.specs.declared.Origin.{Origin}
 use Rattle.cd_ledger.specs.declared.Origin.TheVariants as origin
 use Rattle.cd_ledger.specs.declared.Task.{Task}
 use Rattle.cd_ledger.specs.Machine.{IsItemOf, AreInputItems, AreTaskItems}
-use Rattle.cd_ledger.specs.Lean.{AllPairs, HasNoRepeat, IsCandidate}
+use Rattle.cd_ledger.specs.Lean.{IsCandidate}
 
 pub item_tidied : (o : Origin) (s : Step) (c : Clause) (item : Item) → IsItemOf o s c item → IsTidied c item.clause
 item_tidied o s c item (inl here) = subst (λ (i : Item). IsTidied c i.clause) (sym here.1) here.0

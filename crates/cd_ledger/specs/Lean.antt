@@ -1,21 +1,12 @@
 -- Propositional clauses without repeated literals.
-use Rattle.std.specs.Prelude.{ℕ, ◌≤◌, Bool, Some, List, [], ◌∷◌}
-use Rattle.std.specs.List.{AllByRecursion}
+-- Beyond the headline: no clause of `prove` reaches this file.
+use Rattle.std.specs.Prelude.{ℕ, ◌≤◌, Bool, Some}
 use Rattle.cd_clause.specs.declared.Literal.{Literal}
 use Rattle.cd_clause.specs.declared.Clause.{Clause}
-use Rattle.cd_clause.specs.Clauses.{IsSameLiteral}
+use Rattle.cd_clause.specs.Clauses.{HasNoRepeat}
 use Rattle.cd_infer.specs.Eligible.{predicate_of, same_predicate}
-use Rattle.cd_read.specs.Problems.{IsPropositional}
-use Rattle.cd_ledger.specs.Counts.{tally}
-
--- each item with each later one
-abbrev pub AllPairs : {A : Type 0} → (A → A → Type 0) → List A → Type 0
-AllPairs P [] = Unit {0}
-AllPairs P (x ∷ xs) = AllByRecursion (P x) xs × AllPairs P xs
-
--- no literal is the same as an earlier one
-abbrev pub HasNoRepeat : Clause → Type 0
-HasNoRepeat c = AllPairs (λ l m. ¬ IsSameLiteral m l) c.literals
+use Rattle.cd_clause.specs.Propositional.{IsPropositional}
+use Rattle.cd_list.specs.Lists.{tally}
 
 abbrev pub has_predicate : ℕ → Literal → Bool
 has_predicate n l = same_predicate (Some n) (predicate_of l.atom)

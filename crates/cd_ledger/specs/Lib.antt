@@ -1,4 +1,3 @@
-pub mod Counts
 pub mod Lean
 pub mod Names
 pub mod Machine

@@ -1,9 +1,12 @@
 -- The machine of one peer: the start, the events that are legal, and what each changes.
+-- Beyond the headline: no clause of `prove` reaches next_event, LocalStep, first_of, first_act, IsTurn, stamped,
+--   KeepsFirst, WorksFirst.
 use Rattle.std.specs.Prelude.{◌≡◌, ◌≢◌, ◌⊎◌, ℕ, ◌+◌, ◌-◌, ◌^◌, ◌<◌, nat_le, min, Bool, true, false, if◌then◌else◌, List, [], ◌∷◌, ◌++◌, length, map, remove, None, Some, slice_get}
 use Rattle.std.specs.List.{AllByRecursion}
 use Rattle.cd_clause.specs.declared.Literal.{Literal}
 use Rattle.cd_clause.specs.declared.Clause.{Clause}
-use Rattle.cd_clause.specs.Clauses.{Among, IsTidied, IsTautology}
+use Rattle.cd_clause.specs.Clauses.{IsTidied, IsTautology}
+use Rattle.cd_list.specs.Lists.{Among}
 use Rattle.cd_names.specs.declared.names.Name.{Name}
 use Rattle.cd_steps.specs.declared.Step.{Step}
 use Rattle.cd_steps.specs.declared.Step.TheVariants.{Tidy}

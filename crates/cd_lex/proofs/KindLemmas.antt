@@ -1,7 +1,7 @@
 -- Which kinds of tokens begin with which bytes, and the longest token at a place.
 use Rattle.std.proofs.Common.{◌≡◌, ◌≢◌, ◌⊎◌, ◌∙◌, ◌&&◌, ◌||◌, ◌==◌, ◌+◌, ◌<◌, ◌≤◌, ◌++◌, ◌∷◌, [], ℕ, Bool, true, false, if◌then◌else◌, nat_le, codes, length, drop, get_or, append_assoc, length-append, length-drop, refl, sym, ap, subst, arith, inl, inr, true≢false, leb-true, eqb-true}
 use Rattle.std.proofs.lemmas.Bool.{lt-leb, and_parts, ne_eqb}
-use Rattle.cd_lex.specs.Bytes.{Bytes, is_lower, is_upper, is_digit, is_word, is_dollar, is_plus_or_minus, is_sign, is_other}
+use Rattle.cd_lex.specs.Bytes.{Bytes, is_lower, is_upper, is_digit, is_word_byte, is_dollar, is_plus_or_minus, is_sign, is_other}
 use Rattle.cd_lex.specs.Scans.{Ends, EndsToken, EndsQuoted, BeginsNoWord}
 use Rattle.cd_lex.specs.Tokens.{Then, Optional, One, Many, IsInteger, IsNumber, IsLower, IsDollar, IsSign, IsToken, IsAnyToken, Begins, BeginsNo, Inside, none, plain, escaped}
 use Rattle.cd_lex.specs.Gaps.{BeginsNoGap}
@@ -119,8 +119,8 @@ integer_first text (s, d ∷ ds, inr (c, passes, one), digits, e) = record {
     second false h = h
 
 pub head : (k : TokenKind) (text : Bytes) → IsToken k text → Head k text
-head Lower text is = let r = first_then is_lower (Many is_word) text is in opened r.byte r.rest r.is (sym (group_lower r.byte r.passes))
-head Upper text is = let r = first_then is_upper (Many is_word) text is in opened r.byte r.rest r.is (sym (group_upper r.byte r.passes))
+head Lower text is = let r = first_then is_lower (Many is_word_byte) text is in opened r.byte r.rest r.is (sym (group_lower r.byte r.passes))
+head Upper text is = let r = first_then is_upper (Many is_word_byte) text is in opened r.byte r.rest r.is (sym (group_upper r.byte r.passes))
 head Dollar text is =
     let r = first_then is_dollar (Then (Optional (One is_dollar)) IsLower) text is in
     opened r.byte r.rest r.is (sym (ap group (eqb-true r.byte 36 r.passes)))

@@ -1,4 +1,6 @@
 -- Bytes by their ASCII codes.
+-- Beyond the headline: no clause of `prove` reaches Bytes, is_among, is_dollar, is_plus_or_minus, is_point,
+--   is_exponent_letter, is_sign, is_other, is_blank.
 use Rattle.std.specs.Prelude.{◌==◌, ◌&&◌, ◌||◌, ℕ, Bool, nat_le, List, codes}
 use Rattle.std.specs.List.{list_any}
 
@@ -21,8 +23,8 @@ abbrev pub is_digit : ℕ → Bool
 is_digit b = nat_le 48 b && nat_le b 57
 
 -- letters, digits and `_`
-abbrev pub is_word : ℕ → Bool
-is_word b = is_lower b || (is_upper b || (is_digit b || b == 95))
+abbrev pub is_word_byte : ℕ → Bool
+is_word_byte b = is_lower b || (is_upper b || (is_digit b || b == 95))
 
 -- `$`
 abbrev pub is_dollar : ℕ → Bool

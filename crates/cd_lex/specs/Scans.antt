@@ -1,4 +1,5 @@
 -- What the scanner's parts answer.
+-- Beyond the headline: no clause of `prove` reaches this file.
 use Rattle.std.specs.Prelude.{◌≡◌, ◌≢◌, ◌+◌, ◌<◌, ◌++◌, ◌∷◌, [], ℕ, Bool, true, false, Option, Some, None, length, drop}
 use Rattle.std.specs.List.{list_all}
 use Rattle.cd_lex.specs.declared.quotes.InsideEnd.{InsideEnd}

@@ -1,9 +1,10 @@
 -- Which bytes are a token of which kind, and which token stands at a place: the longest.
+-- Beyond the headline: no clause of `prove` reaches this file.
 use Rattle.std.specs.Prelude.{◌≡◌, ◌≢◌, ◌⊎◌, ◌≤◌, ◌++◌, ◌∷◌, [], ℕ, Bool, true, length, codes}
 use Rattle.std.specs.List.{list_all}
 use Rattle.cd_lex.specs.declared.TokenKind.{TokenKind}
 use Rattle.cd_lex.specs.declared.TokenKind.TheVariants.{Lower, Upper, Dollar, Quoted, Object, Number, Sign, Other}
-use Rattle.cd_lex.specs.Bytes.{Bytes, is_lower, is_upper, is_digit, is_word, is_dollar, is_plus_or_minus, is_point, is_exponent_letter, is_sign, is_other}
+use Rattle.cd_lex.specs.Bytes.{Bytes, is_lower, is_upper, is_digit, is_word_byte, is_dollar, is_plus_or_minus, is_point, is_exponent_letter, is_sign, is_other}
 
 -- ---- forms of texts
 
@@ -31,11 +32,11 @@ AtLeastOne test text = (text ≢ []) × (list_all test text ≡ true)
 
 -- a small letter, then letters, digits and `_`
 abbrev pub IsLower : Bytes → Type 0
-IsLower = Then (One is_lower) (Many is_word)
+IsLower = Then (One is_lower) (Many is_word_byte)
 
 -- a capital letter, then letters, digits and `_`
 abbrev pub IsUpper : Bytes → Type 0
-IsUpper = Then (One is_upper) (Many is_word)
+IsUpper = Then (One is_upper) (Many is_word_byte)
 
 -- one or two `$`, then a lower word
 abbrev pub IsDollar : Bytes → Type 0

@@ -4,6 +4,7 @@
 ghost use Rattle.std.specs.Prelude.{◌≡◌};
 ghost use Rattle.cd_lex.specs.Bytes as codes;
 
+/// Whether the byte is a letter from `a` to `z`.
 pub fn is_lower(b: u8) -> bool
     ensures { result ≡ codes.is_lower b }
 {
@@ -22,8 +23,9 @@ pub fn is_digit(b: u8) -> bool
     b >= b'0' && b <= b'9'
 }
 
-pub fn is_word(b: u8) -> bool
-    ensures { result ≡ codes.is_word b }
+/// Whether the byte is a letter, a digit or `_`.
+pub fn is_word_byte(b: u8) -> bool
+    ensures { result ≡ codes.is_word_byte b }
 {
     is_lower(b) || is_upper(b) || is_digit(b) || b == b'_'
 }

@@ -10,13 +10,13 @@ ghost use Rattle.cd_lex.specs.Scans.{EndsToken, BeginsNoWord};
 
 mod bytes;
 mod gaps;
+pub mod laws;
 mod numbers;
 mod quotes;
-#[cfg(test)]
-mod tests;
 mod words;
 
-use bytes::{is_dollar, is_lower, is_other, is_sign, is_upper};
+pub use bytes::{is_lower, is_word_byte};
+use bytes::{is_dollar, is_other, is_sign, is_upper};
 use gaps::gap_end;
 use numbers::number_end;
 use quotes::quoted_end;
@@ -72,7 +72,8 @@ pub struct Token<'a> {
 }
 
 /// The first token from place `from` on, behind blanks and comments; `None` where nothing else follows.
-/// The next call begins behind the token, at `start` and the slice's length together.
+/// The next call begins behind the token, at `start` and the slice's length together. One answer alone fits
+/// ([`laws::answers_agree`]).
 pub fn next_token(bytes: &[u8], from: usize) -> Result<Option<Token<'_>>, LexFault>
     requires few { length bytes.now < 2 ^ 32 }
     requires within { from ≤ length bytes.now }

@@ -2,7 +2,7 @@
 #![tactic(auto)]
 
 ghost use Rattle.std.specs.Prelude.{◌≡◌, true, ◌+◌, ◌≤◌, ◌<◌, length, drop, slice_index, IfSome, MatchOption};
-ghost use Rattle.cd_lex.specs.Bytes.{is_word, is_dollar};
+ghost use Rattle.cd_lex.specs.Bytes.{is_word_byte, is_dollar};
 ghost use Rattle.cd_lex.specs.Tokens.{IsLower, IsDollar, BeginsNo};
 ghost use Rattle.cd_lex.specs.Scans.{EndsRun, Ends, IsMarked};
 
@@ -11,11 +11,11 @@ use crate::bytes;
 /// Where the run of letters, digits and `_` ends.
 pub fn word_end(bytes: &[u8], from: usize) -> usize
     requires { from ≤ length bytes.now }
-    ensures run { EndsRun is_word (drop from bytes.now) from result }
+    ensures run { EndsRun is_word_byte (drop from bytes.now) from result }
     ensures within { result ≤ length bytes.now }
 {
     let mut at = from;
-    while at < bytes.len() && bytes::is_word(bytes[at]) {
+    while at < bytes.len() && bytes::is_word_byte(bytes[at]) {
         at += 1;
     }
     at

@@ -1,4 +1,5 @@
 -- Waves of counts.
+-- Beyond the headline: no clause of `prove` reaches this file.
 use Rattle.std.specs.Prelude.{ℕ, ◌≡◌, length, sum_by}
 use Rattle.cd_names.specs.declared.waves.Token.{Token}
 

@@ -1,2 +1,4 @@
+pub mod Cutting
+pub mod Giving
 pub mod Receiving
 pub mod Sending

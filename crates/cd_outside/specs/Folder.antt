@@ -1,4 +1,5 @@
 -- A folder: the files of the machine, seen as how often they could not be read.
+-- Beyond the headline: no clause of `prove` reaches this file.
 use Rattle.std.specs.Prelude.{ℕ, Result, Ok, Err}
 use Rattle.cd_outside.specs.Outside.{counted}
 use Rattle.cd_outside.specs.declared.library.FetchFault.{FetchFault}

@@ -1,4 +1,5 @@
 -- A text that is sent piece by piece.
+-- Beyond the headline: no clause of `prove` reaches this file.
 use Rattle.std.specs.Prelude.{◌≡◌, ℕ, List, ◌++◌, Option}
 use Rattle.std.specs.Io.KnownBytes.{Appends}
 

@@ -9,19 +9,23 @@
 mod folder;
 mod gate;
 mod library;
+mod opener;
 mod page;
 mod shelf;
 mod sink;
 mod standard;
+mod writer;
 
 pub use cd_list::Text;
-pub use folder::Folder;
+pub use folder::{Folder, FolderOver};
 pub use gate::{Gate, OpenGate};
 pub use library::{Bytes, FetchFault, Library};
+pub use opener::{CallFailed, MachineFiles, Opener};
 pub use page::{Fails, Page};
 pub use shelf::{Calls, Shelf, Shelved};
 pub use sink::{Sink, SinkFailed};
-pub use standard::Standard;
+pub use standard::{Standard, StandardOver};
+pub use writer::{MachineWriter, Writer};
 
 #[cfg(test)]
 mod tests;

@@ -1,10 +1,11 @@
 -- The names of the one peer are their places.
 use Rattle.std.proofs.Common.{◌≡◌, ℕ, zero, suc, ◌+◌, Bool, true, false, cond, List, [], ◌∷◌, ◌++◌, Some, slice_get, refl, sym, ap, ◌∙◌, subst, arith}
 use Rattle.std.specs.List.{find}
-use Rattle.cd_ledger.proofs.NameLemmas.{same_name, other_name}
+use Rattle.cd_names.proofs.NameLemmas.{same_name, other_name}
 use Rattle.cd_names.specs.declared.names.Name.{Name}
 use Rattle.cd_ledger.specs.declared.Known.{Known}
-use Rattle.cd_ledger.specs.Names.{name_eq, each_once, add_once, look}
+use Rattle.cd_ledger.specs.Names.{look}
+use Rattle.cd_names.specs.Names.{name_eq, each_once, add_once}
 use Rattle.cd_peer.specs.Ready.{AreNumbered}
 
 -- names that were seen, name by name

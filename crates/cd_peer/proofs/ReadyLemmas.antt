@@ -6,7 +6,8 @@ use Rattle.cd_clause.specs.Clauses.{IsTautology}
 use Rattle.cd_names.specs.declared.names.Name.{Name}
 use Rattle.cd_steps.specs.declared.Step.TheVariants.{Input}
 use Rattle.cd_read.specs.declared.problem.Problem.{Problem}
-use Rattle.cd_read.specs.Problems.{IsPropositional, ArePropositional}
+use Rattle.cd_read.specs.Problems.{ArePropositional}
+use Rattle.cd_clause.specs.Propositional.{IsPropositional}
 use Rattle.cd_ledger.specs.declared.Act.{Act}
 use Rattle.cd_ledger.specs.declared.Act.TheVariants.{Keep, Work, Declare, End}
 use Rattle.cd_ledger.specs.declared.Event.{Event}

@@ -1,4 +1,5 @@
 -- How far the one peer's run has come, and its end.
+-- Beyond the headline: no clause of `prove` reaches this file.
 use Rattle.std.specs.Prelude.{◌≡◌, ◌≤◌, ℕ, true, false, [], ◌∷◌, Option, None, Some, IsSome}
 use Rattle.cd_read.specs.declared.problem.Problem.{Problem}
 use Rattle.cd_ledger.specs.declared.Act.TheVariants.{End}

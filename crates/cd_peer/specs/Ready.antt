@@ -1,4 +1,5 @@
 -- What a peer keeps true between its events, so that it can make the next one.
+-- Beyond the headline: no clause of `prove` reaches this file.
 use Rattle.std.specs.Prelude.{◌≡◌, ℕ, ◌+◌, ◌-◌, ◌^◌, ◌<◌, ◌≤◌, if◌then◌else◌, List, [], ◌∷◌, ◌++◌, length, map, None, Some, slice_get}
 use Rattle.std.specs.List.{AllByRecursion}
 use Rattle.cd_names.specs.declared.names.Name.{Name}

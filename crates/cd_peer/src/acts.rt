@@ -87,8 +87,8 @@ fn keep(alloc: Global, mut local: Local) -> Result<Local, AllocError>
     };
     match outcome_of(local.known.as_slice(), next, &item.clause) {
         Outcome::Named(name) => record(alloc, local, name, item),
-        Outcome::Trivial => settle(local, item, Outcome::Trivial),
-        Outcome::Subsumed(name) => settle(local, item, Outcome::Subsumed(name)),
+        Outcome::Trivial => note_settled(local, item, Outcome::Trivial),
+        Outcome::Subsumed(name) => note_settled(local, item, Outcome::Subsumed(name)),
     }
 }
 
@@ -108,7 +108,7 @@ fn record(alloc: Global, mut local: Local, name: Name, item: Item) -> Result<Loc
 }
 
 // Of the item, which was taken out, nothing stays but its entry.
-fn settle(mut local: Local, item: Item, outcome: Outcome) -> Result<Local, AllocError>
+fn note_settled(mut local: Local, item: Item, outcome: Outcome) -> Result<Local, AllocError>
     ensures { IfOk result (λ next. next ≡ stamped (record local { settled = local.settled ++ settlement item outcome ∷ [] }) (Act.Keep 0)) }
 {
     local.settled.push(settle_item(item, outcome))?;

@@ -1,7 +1,8 @@
 //! The parts of an event: what is added to the lists of a state.
 ghost use Rattle.std.specs.Prelude.{◌≡◌, ◌<◌, ◌≤◌, ◌^◌, ◌++◌, ◌∷◌, [], length, map, slice_get, IfOk, OnOk, Some, None, if◌then◌else◌};
 ghost use Rattle.std.specs.List.{AllByRecursion, list_any};
-ghost use Rattle.cd_ledger.specs.Names.{cites_of, each_once, add_once, names_in, name_eq, look};
+ghost use Rattle.cd_ledger.specs.Names.{cites_of, names_in, look};
+ghost use Rattle.cd_names.specs.Names.{each_once, add_once, name_eq};
 ghost use Rattle.cd_ledger.specs.Machine.{IsItemOf, AreInputItems, tasks_of, name_of, recorded_item, settlement, is_empty, Concludes};
 ghost use Rattle.cd_peer.specs.Ready.{AreNumbered, IsNumbered, IsTaskKnown, AddsItems};
 ghost use Rattle.cd_ledger.specs.Lean.{IsUsable};

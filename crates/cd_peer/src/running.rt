@@ -18,16 +18,16 @@ pub fn run(alloc: Global, problem: &Problem, limits: Limits) -> Result<Local, Al
     ensures { IfOk result (IsFinished problem.now limits) }
 {
     let local = start(alloc, problem, limits)?;
-    let mut local = settle(alloc, local)?;
+    let mut local = settle_pending(alloc, local)?;
     'turns: while local.verdict.is_none() {
         let next = turn(alloc, local)?;
-        local = settle(alloc, next)?;
+        local = settle_pending(alloc, next)?;
     }
     Ok(local)
 }
 
 // Keeps the pending items, until there are none or there is a verdict.
-fn settle(alloc: Global, local: Local) -> Result<Local, AllocError>
+fn settle_pending(alloc: Global, local: Local) -> Result<Local, AllocError>
     requires { IsReady local }
     ensures ready { IfOk result IsReady }
     ensures reached { IfOk result (λ next. (p : Problem) → (l : Limits) → IsReached p l local → IsReached p l next) }

@@ -1,7 +1,7 @@
 //! What becomes of a clause: whether it is a tautology, or a held clause subsumes it.
 ghost use Rattle.std.specs.Prelude.{◌≡◌, ◌↔◌, IsTrue, IfSome, IfNone};
 ghost use Rattle.std.specs.List.{AllByRecursion};
-ghost use Rattle.cd_clause.specs.Clauses.{Among};
+ghost use Rattle.cd_list.specs.Lists.{Among};
 ghost use Rattle.cd_ledger.specs.Machine.{Subsumes, IsSubsumer, IsFirstSubsumer, IsOutcome};
 
 use cd_clause::{Clause, Literal, is_tautology};

@@ -9,7 +9,8 @@ use Rattle.std.proofs.lemmas.Bool.{and_parts}
 use Rattle.cd_list.proofs.Numbers.{equal_itself}
 use Rattle.cd_read.specs.declared.statement.Statement.{Statement}
 use Rattle.cd_read.specs.declared.statement.SignedWord.{SignedWord}
-use Rattle.cd_read.specs.Words.{is_lower, is_word_byte, is_word}
+use Rattle.cd_lex.specs.Bytes.{is_lower, is_word_byte}
+use Rattle.cd_read.specs.Words.{is_word}
 use Rattle.cd_read.specs.Files.{literal_spelling, further_spelling, literals_spelling, spelling, IsSpelled}
 use Rattle.cd_read.specs.Scanned.{stripped, run_length, word_found, signed_found, literal_found, further_found, joined_found, literals_found, statement_found, statements_found}
 use Rattle.cd_read.proofs.WordsLemmas.{word_all, Stops, run_ends}

@@ -13,7 +13,8 @@ use Rattle.cd_read.specs.declared.statement.Statement.{Statement}
 use Rattle.cd_read.specs.declared.statement.SignedWord.{SignedWord}
 use Rattle.cd_read.specs.declared.problem.Problem.{Problem}
 use Rattle.cd_read.specs.declared.problem.Input.{Input}
-use Rattle.cd_read.specs.Problems.{GivesLiterals, GivesInputs, GivesProblem, input_of, literals_count, AtomFormed, ClauseFormed, IsFormed, IsPropositionalAtom, ArePropositional}
+use Rattle.cd_read.specs.Problems.{GivesLiterals, GivesInputs, GivesProblem, input_of, literals_count, AtomFormed, ClauseFormed, IsFormed, ArePropositional}
+use Rattle.cd_clause.specs.Propositional.{IsPropositionalAtom}
 
 -- interning takes at most one place
 pub interned_room : (old new : List Symbol) (s : Symbol) (n : ℕ) → Interns old new s n → length new ≤ length old + 1

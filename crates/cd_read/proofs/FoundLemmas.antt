@@ -6,7 +6,8 @@ use Rattle.std.proofs.lemmas.List.Concat.{flat_map-cons}
 use Rattle.std.proofs.lemmas.Bool.{and_from, eqb-true}
 use Rattle.cd_read.specs.declared.statement.Statement.{Statement}
 use Rattle.cd_read.specs.declared.statement.SignedWord.{SignedWord}
-use Rattle.cd_read.specs.Words.{is_lower, is_word_byte, is_word}
+use Rattle.cd_lex.specs.Bytes.{is_lower, is_word_byte}
+use Rattle.cd_read.specs.Words.{is_word}
 use Rattle.cd_read.specs.Files.{literal_spelling, further_spelling, literals_spelling, spelling, IsSpelled}
 use Rattle.cd_read.specs.Scanned.{◌>>=◌, stripped, run_length, word_found, signed_found, behind_sign, literal_found, further_found, literals_found, statement_found, statements_found}
 use Rattle.cd_read.proofs.WordsLemmas.{lower_is_word_byte, run_all}

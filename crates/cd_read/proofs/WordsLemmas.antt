@@ -4,7 +4,8 @@ use Rattle.std.specs.List.{list_all}
 use Rattle.std.specs.Str.{IsAscii}
 use Rattle.std.proofs.lemmas.Bool.Decides.{nat_tests}
 use Rattle.std.proofs.lemmas.Bool.{and_parts, and_from}
-use Rattle.cd_read.specs.Words.{is_lower, is_word_byte, is_word}
+use Rattle.cd_lex.specs.Bytes.{is_lower, is_word_byte}
+use Rattle.cd_read.specs.Words.{is_word}
 use Rattle.cd_read.specs.Scanned.{run_length}
 
 byte_small : (b : ℕ) → is_word_byte b ≡ true → b < 128

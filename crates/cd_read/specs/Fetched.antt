@@ -1,8 +1,10 @@
 -- What reading a file through a library tells.
+-- Beyond the headline: no clause of `prove` reaches IsReadFrom, IsReadFault, IsWholeFault, IsOfLibrary.
 use Rattle.std.specs.Prelude.{◌≡◌, ℕ, List, [], ◌∷◌, Option}
 use Rattle.std.specs.declared.result.Result.TheVariants.{Ok, Err}
 use Rattle.cd_outside.specs.Outside.{Gives}
 use Rattle.cd_read.specs.declared.problem.Problem.{Problem}
+use Rattle.cd_read.specs.declared.problem.Wrong.{Wrong as WrongFile}
 use Rattle.cd_read.specs.declared.reader.ReadFault.{ReadFault}
 use Rattle.cd_read.specs.declared.reader.ReadFault.TheVariants.{Library, Wrong, Memory}
 use Rattle.cd_read.specs.Problems.{Reads, IsWholeWrong}
@@ -25,12 +27,8 @@ IsReadFault path before now Memory = Unit {0}
 
 -- what is wrong with a file is wrong with the whole of it, where the library tells it
 abbrev pub IsWholeFault : List ℕ → Option (List ℕ) → ReadFault → Type 0
-IsWholeFault path file (Library failed) = Unit {0}
-IsWholeFault path file (Wrong w) = IsWholeWrong path file w
-IsWholeFault path file Memory = Unit {0}
+IsWholeFault path file fault = (w : WrongFile) → fault ≡ Wrong w → IsWholeWrong path file w
 
 -- the fault is the library's
 abbrev pub IsOfLibrary : ReadFault → Type 0
-IsOfLibrary (Library failed) = Unit {0}
-IsOfLibrary (Wrong w) = ⊥
-IsOfLibrary Memory = ⊥
+IsOfLibrary fault = (failed : List ℕ) × (fault ≡ Library failed)

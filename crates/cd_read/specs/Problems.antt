@@ -1,5 +1,6 @@
 -- The problem that a file's statements give.
-use Rattle.std.specs.Prelude.{◌≡◌, ◌≤◌, ◌<◌, ℕ, ◌+◌, List, [], ◌∷◌, length, Option, None, Some, slice_get}
+-- Beyond the headline: no clause of `prove` reaches literals_count, IsFormed, ArePropositional.
+use Rattle.std.specs.Prelude.{◌≡◌, ◌≤◌, ℕ, ◌+◌, List, [], ◌∷◌, length, Option, Some, IfSome, slice_get}
 use Rattle.std.specs.List.{AllByRecursion}
 use Rattle.std.specs.declared.result.Result.{Result}
 use Rattle.std.specs.declared.result.Result.TheVariants.{Ok, Err}
@@ -7,6 +8,7 @@ use Rattle.cd_clause.specs.declared.Atom.{Atom}
 use Rattle.cd_clause.specs.declared.Atom.TheVariants.{Truth, Pred, Equal}
 use Rattle.cd_clause.specs.declared.Literal.{Literal}
 use Rattle.cd_clause.specs.declared.Clause.{Clause}
+use Rattle.cd_clause.specs.Propositional.{IsPropositional}
 use Rattle.cd_symbols.specs.Symbol.{Symbol, symbol_of, Interns}
 use Rattle.cd_symbols.specs.declared.Kind.TheVariants.{Predicate}
 use Rattle.cd_read.specs.declared.statement.Statement.{Statement}
@@ -53,13 +55,11 @@ Reads path bytes (Err w) = ((statements : List Statement) → IsFile bytes state
 
 -- the problem is that of the whole file, where the library tells it
 abbrev pub IsWhole : List ℕ → Option (List ℕ) → Problem → Type 0
-IsWhole path None p = Unit {0}
-IsWhole path (Some file) p = Reads path file (Ok p)
+IsWhole path file p = IfSome file (λ bytes. Reads path bytes (Ok p))
 
 -- what is wrong is wrong with the whole file, where the library tells it
 abbrev pub IsWholeWrong : List ℕ → Option (List ℕ) → Wrong → Type 0
-IsWholeWrong path None w = Unit {0}
-IsWholeWrong path (Some file) w = Reads path file (Err w)
+IsWholeWrong path file w = IfSome file (λ bytes. Reads path bytes (Err w))
 
 -- the atom's symbol is a predicate of the table that takes no arguments: so far there are no other atoms
 abbrev pub AtomFormed : List Symbol → Atom → Type 0
@@ -75,16 +75,6 @@ pub record IsFormed (p : Problem) : Type 0 where
   pub few : length p.symbols ≤ 65535
   pub clauses : AllByRecursion (λ i. ClauseFormed p.symbols i.clause) p.inputs
   pub short : AllByRecursion (λ i. length i.clause.literals ≤ 65535) p.inputs
-
--- a predicate without arguments, with a number below 32,768: so far a problem has no more symbols, since each literal takes two bytes
--- of its file at least
-abbrev pub IsPropositionalAtom : Atom → Type 0
-IsPropositionalAtom Truth = ⊥
-IsPropositionalAtom (Pred n args) = (n < 32768) × (args ≡ [])
-IsPropositionalAtom (Equal s t) = ⊥
-
-abbrev pub IsPropositional : Clause → Type 0
-IsPropositional c = AllByRecursion (λ l. IsPropositionalAtom l.atom) c.literals
 
 -- the clauses of the inputs are propositional
 abbrev pub ArePropositional : List Input → Type 0

@@ -1,4 +1,5 @@
 -- What the reader finds at the front of a text: the value that is spelled there and the bytes behind it.
+-- Beyond the headline: no clause of `prove` reaches this file.
 use Rattle.std.specs.Prelude.{◌≡◌, ℕ, zero, suc, Bool, true, false, ◌==◌, if◌then◌else◌, List, [], ◌∷◌, ◌++◌, take, drop, length, codes, Option, None, Some}
 use Rattle.std.specs.declared.result.Result.{Result}
 use Rattle.std.specs.declared.result.Result.TheVariants.{Ok, Err}
@@ -6,7 +7,7 @@ use Rattle.cd_read.specs.declared.scan.ScanFault.{ScanFault}
 use Rattle.cd_read.specs.declared.scan.ScanFault.TheVariants.{Form, Memory}
 use Rattle.cd_read.specs.declared.statement.Statement.{Statement}
 use Rattle.cd_read.specs.declared.statement.SignedWord.{SignedWord}
-use Rattle.cd_read.specs.Words.{is_lower, is_word_byte}
+use Rattle.cd_lex.specs.Bytes.{is_lower, is_word_byte}
 
 infixl 10 ◌>>=◌
 abbrev pub ◌>>=◌ : {A B : Type 0} → Option A → (A → Option B) → Option B

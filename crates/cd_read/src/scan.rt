@@ -1,10 +1,11 @@
 //! Readers of what stands at the front of a text.
 ghost use Rattle.std.specs.Prelude.{◌≡◌, ◌≤◌, ℕ, List, length, codes, IfOk, IfSome, MatchOption};
 ghost use Rattle.std.specs.Str.{IsAscii};
-ghost use Rattle.cd_read.specs.Words.{is_lower, is_word_byte};
+ghost use Rattle.cd_lex.specs.Bytes.{is_lower, is_word_byte};
 ghost use Rattle.cd_read.specs.Scanned.{Scans, stripped, run_length, word_found, signed_found, literal_found, further_found, literals_found, statement_found, statements_found};
 
 use crate::statement::{SignedWord, SignedWords, Statement, Statements};
+use cd_lex::{is_lower, is_word_byte};
 use cd_list::{Sequence, Text};
 use std::alloc::{AllocError, Global};
 
@@ -53,18 +54,6 @@ fn expect<'a>(text: &'a [u8], front: &[u8]) -> Result<&'a [u8], ScanFault>
         Some(rest) => Ok(rest),
         None => Err(ScanFault::Form),
     }
-}
-
-fn is_lower(b: u8) -> bool
-    ensures { result ≡ is_lower b }
-{
-    b'a' <= b && b <= b'z'
-}
-
-fn is_word_byte(b: u8) -> bool
-    ensures { result ≡ is_word_byte b }
-{
-    is_lower(b) || (b'A' <= b && b <= b'Z') || (b'0' <= b && b <= b'9') || b == b'_'
 }
 
 fn run_length(text: &[u8]) -> usize

@@ -1,5 +1,6 @@
 -- When a step of a derivation is right, and that right steps are sound.
-use Rattle.std.specs.Prelude.{◌≡◌, ℕ, true, false, List, ◌++◌, length, remove, Option, None, Some, slice_get}
+-- Beyond the headline: no clause of `prove` reaches IsGiven, HoldsIfAny, StepsAreSound, StepsGiveOne.
+use Rattle.std.specs.Prelude.{◌≡◌, ℕ, true, false, List, ◌++◌, length, remove, Option, None, Some, IfSome, IsSomeAnd, slice_get}
 use Rattle.cd_term.specs.declared.Term.{Term}
 use Rattle.cd_clause.specs.declared.Atom.{Atom}
 use Rattle.cd_clause.specs.declared.Literal.{Literal}
@@ -33,8 +34,7 @@ pub record ResolvesBoth (first : Option Clause) (i : ℕ) (second : Option Claus
 
 -- the clause before it is there, and the result is its tidy form
 abbrev pub TidiesIfAny : Option Clause → Clause → Type 0
-TidiesIfAny None result = ⊥
-TidiesIfAny (Some c) result = IsTidied c result
+TidiesIfAny before result = IsSomeAnd before (λ c. IsTidied c result)
 
 -- the result is what the step gives of its premises: the clause before it, and the clauses that it names, or its input's
 abbrev pub StepOk : Step → Option Clause → Option Clause → Option Clause → Clause → Type 0
@@ -53,8 +53,7 @@ resolvent_of a i b j = record { literals = remove a.literals i ++ remove b.liter
 
 -- a clause holds, if there is one
 abbrev pub HoldsIfAny : Interp → Option Clause → Type 0
-HoldsIfAny interp None = Unit {0}
-HoldsIfAny interp (Some c) = Holds interp c
+HoldsIfAny interp clause = IfSome clause (Holds interp)
 
 -- in every interpretation in which a right step's premises hold, its result holds
 abbrev pub StepsAreSound : Type 0

@@ -1,4 +1,5 @@
 -- What contracts see of symbols and of their table.
+-- Beyond the headline: no clause of `prove` reaches AreDistinct.
 use Rattle.std.specs.Prelude.{◌≡◌, ◌≢◌, ◌⊎◌, ◌++◌, ◌∷◌, [], ℕ, List, Some, length, slice_get}
 use Rattle.cd_symbols.specs.declared.Kind.{Kind}
 

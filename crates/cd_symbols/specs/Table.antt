@@ -1,4 +1,5 @@
 -- How a table is stored: each text once, and the symbols with the places of their texts.
+-- Beyond the headline: no clause of `prove` reaches this file.
 use Rattle.std.specs.Prelude.{◌≡◌, ◌<◌, [], ℕ, List, Some, slice_get, slice_index_or}
 use Rattle.cd_symbols.specs.declared.Key.{Key}
 use Rattle.cd_symbols.specs.Symbol.{Symbol}

@@ -12,3 +12,8 @@ pub mod PathLaws
 pub mod VariableLaws
 pub mod MarkLemmas
 pub mod NumberingLemmas
+pub mod Comparing
+pub mod Around
+pub mod Replacing
+pub mod Deciding
+pub mod OverLemmas

@@ -1,10 +1,10 @@
 -- One level of a replacement, and its size and depth.
-use Rattle.std.proofs.Common.{◌≡◌, ℕ, ◌+◌, ◌-◌, ◌<◌, ◌≤◌, max, List, [], ◌∷◌, ◌++◌, length, map, take, drop, sum_by, Option, None, Some, IsSomeAnd, slice_get, slice_set, option_and_then, option_map, ap, ◌∙◌, sym, subst, refl, arith, add-one, append_assoc}
+use Rattle.std.proofs.Common.{◌≡◌, ℕ, ◌+◌, ◌<◌, max, List, [], ◌∷◌, ◌++◌, length, map, take, drop, sum_by, Option, None, Some, IsSomeAnd, slice_get, slice_set, option_and_then, option_map, ap, ◌∙◌, sym, subst, refl, arith, add-one, append_assoc}
 use Rattle.std.proofs.lemmas.List.{set_split, map-append}
 use Rattle.std.proofs.lemmas.List.Sums.{sum_by-append, sum_by-cons}
 use Rattle.cd_term.specs.declared.Term.{Term}
 use Rattle.cd_term.specs.declared.Term.TheVariants.{Var, App, outs-App}
-use Rattle.cd_term.specs.Terms.{put, put_step, subterm, replaced, argument, size_of, depth_of, greatest, IsWithin, AreWithin, AreMeasured, IsMeasureOf}
+use Rattle.cd_term.specs.Terms.{put, put_step, subterm, replaced, argument, size_of, depth_of, greatest, IsWithin, IsMeasureOf}
 use Rattle.cd_term.proofs.Equations.{size_of-App, depth_of-App}
 use Rattle.cd_term.proofs.Measures.{greatest-append}
 use Rattle.cd_term.proofs.Paths.{argument-Var, argument-App}
@@ -56,67 +56,6 @@ put_depth f ts i w lt =
     depth_of-App f (slice_set ts i w) ∙ ap (λ us. 1 + greatest (map depth_of us)) split
     ∙ ap (λ ns. 1 + greatest ns) (map-append depth_of (take i ts) (w ∷ drop (i + 1) ts))
     ∙ ap (λ n. 1 + n) (greatest-append (map depth_of (take i ts)) (map depth_of (w ∷ drop (i + 1) ts)))
-
-abbrev pub measured_put : ℕ → ℕ → ℕ → List Term → ℕ → Option Term → Option ℕ → Type 0
-measured_put symbols levels f ts i o answer = IsMeasureOf symbols levels (option_map (λ v. App f (slice_set ts i v)) o) answer
-
--- the measure of a replacement from that of one argument
-pub replaced_measured : (symbols levels : ℕ) (path : List ℕ) (i : ℕ) (rest : List ℕ) (new t : Term) (f : ℕ) (ts : List Term) (u : Term) (answer : Option ℕ) →
-    path ≡ i ∷ rest → t ≡ App f ts → slice_get ts i ≡ Some u → measured_put symbols levels f ts i (replaced rest new u) answer →
-    IsMeasureOf symbols levels (replaced path new t) answer
-replaced_measured symbols levels path i rest new t f ts u answer p is here m =
-    subst (λ o. IsMeasureOf symbols levels o answer) (sym (replaced-in path i rest new t f ts u p is here)) m
-
-pub replaced_nowhere : (symbols levels : ℕ) (path : List ℕ) (i : ℕ) (rest : List ℕ) (new t : Term) (f : ℕ) (ts : List Term) →
-    path ≡ i ∷ rest → t ≡ App f ts → slice_get ts i ≡ None → IsMeasureOf symbols levels (replaced path new t) None
-replaced_nowhere symbols levels path i rest new t f ts p is out =
-    subst (λ o. IsMeasureOf symbols levels o None) (sym (replaced-out path i rest new t f ts p is out)) refl
-
--- one argument is outside: one in front, the one at the place, or one behind it
-pub front_outside : (symbols levels f : ℕ) (ts us : List Term) (i : ℕ) (o : Option Term) →
-    ¬ AreWithin (symbols - 1) (levels - 1) us → i < length ts → us ≡ take i ts → measured_put symbols levels f ts i o None
-front_outside symbols levels f ts us i None out lt is = refl
-front_outside symbols levels f ts us i (Some w) out lt is = λ within.
-    let size = ap (sum_by size_of) is in let deep = ap (λ vs. greatest (map depth_of vs)) is in
-    out (omega (arith, size, put_size f ts i w lt, within.0), omega (arith, deep, put_depth f ts i w lt, within.1))
-
-pub inner_few : (symbols levels : ℕ) (o : Option Term) (n : ℕ) → IsMeasureOf symbols levels o (Some n) → n ≤ symbols
-inner_few symbols levels None n m = absurd (cc)
-inner_few symbols levels (Some w) n m = omega (arith, m.0, m.1.0)
-
-pub inner_outside : (symbols levels front f : ℕ) (ts us : List Term) (i : ℕ) (o : Option Term) →
-    AreMeasured (symbols - 1) (levels - 1) us (Some front) → IsMeasureOf (symbols - 1 - front) (levels - 1) o None →
-    i < length ts → us ≡ take i ts → measured_put symbols levels f ts i o None
-inner_outside symbols levels front f ts us i None m out lt is = refl
-inner_outside symbols levels front f ts us i (Some w) m out lt is = λ within.
-    let size = ap (sum_by size_of) is in
-    out (omega (arith, size, put_size f ts i w lt, within.0, m.0), omega (arith, put_depth f ts i w lt, within.1))
-
-pub back_outside : (symbols levels front inner f : ℕ) (ts us vs : List Term) (i : ℕ) (o : Option Term) →
-    AreMeasured (symbols - 1) (levels - 1) us (Some front) → IsMeasureOf (symbols - 1 - front) (levels - 1) o (Some inner) →
-    ¬ AreWithin (symbols - 1 - front - inner) (levels - 1) vs →
-    i < length ts → us ≡ take i ts → vs ≡ drop (i + 1) ts → measured_put symbols levels f ts i o None
-back_outside symbols levels front inner f ts us vs i None m n out lt is are = refl
-back_outside symbols levels front inner f ts us vs i (Some w) m n out lt is are = λ within.
-    let size = ap (sum_by size_of) is in let more = ap (sum_by size_of) are in let deep = ap (λ xs. greatest (map depth_of xs)) are in
-    out (omega (arith, size, more, put_size f ts i w lt, within.0, m.0, n.0), omega (arith, deep, put_depth f ts i w lt, within.1))
-
--- all are inside
-pub put_measured : (symbols levels front inner back f : ℕ) (ts us vs : List Term) (i : ℕ) (o : Option Term) →
-    AreMeasured (symbols - 1) (levels - 1) us (Some front) → IsMeasureOf (symbols - 1 - front) (levels - 1) o (Some inner) →
-    AreMeasured (symbols - 1 - front - inner) (levels - 1) vs (Some back) →
-    i < length ts → us ≡ take i ts → vs ≡ drop (i + 1) ts → 0 < symbols → 0 < levels →
-    measured_put symbols levels f ts i o (Some (1 + front + inner + back))
-put_measured symbols levels front inner back f ts us vs i None m n b lt is are sp lp = absurd (cc)
-put_measured symbols levels front inner back f ts us vs i (Some w) m n b lt is are sp lp =
-    let size = ap (sum_by size_of) is in let more = ap (sum_by size_of) are in
-    let high = ap (λ xs. greatest (map depth_of xs)) is in let deep = ap (λ xs. greatest (map depth_of xs)) are in (
-      omega (arith, size, more, put_size f ts i w lt, m.0, n.0, b.0),
-      (
-        omega (arith, size, more, put_size f ts i w lt, m.0, m.1.0, n.0, n.1.0, b.0, b.1.0),
-        omega (arith, high, deep, put_depth f ts i w lt, m.1.1, n.1.1, b.1.1),
-      ),
-    )
 
 -- the list of arguments with one replaced, as it is built
 pub put_built : (ts us vs start front middle all : List Term) (i : ℕ) (w : Term) → start ≡ [] → front ≡ start ++ us → middle ≡ front ++ w ∷ [] → all ≡ middle ++ vs →

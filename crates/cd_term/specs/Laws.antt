@@ -1,9 +1,14 @@
 -- The laws of terms that other crates build on. Each is the contract of a function of the module `laws`.
+-- Beyond the headline: no clause of `prove` reaches this file.
 use Rattle.std.specs.List.{list_any, flat_map}
-use Rattle.std.specs.Prelude.{ℕ, ◌≡◌, ◌+◌, ◌<◌, ◌≤◌, max, false, nat_eq, List, ◌++◌, length, map, sum_by, IsTrue, Some, slice_index, option_and_then}
+use Rattle.std.specs.Prelude.{ℕ, ◌≡◌, ◌⊎◌, ◌+◌, ◌<◌, ◌≤◌, max, false, nat_eq, List, ◌++◌, length, map, sum_by, IsTrue, Some, slice_index, option_and_then}
 use Rattle.cd_term.specs.declared.Term.{Term}
 use Rattle.cd_term.specs.declared.Term.TheVariants.{Var}
 use Rattle.cd_term.specs.Terms.{greatest, size_of, depth_of, bound_of, variables_of, occurs, substituted, applied, one, subterm, replaced, IsNumberedFrom, order_of, rank, unranked, renumbered}
+
+-- two terms are equal or not
+abbrev pub TermsDecide : Type 0
+TermsDecide = (s t : Term) → (s ≡ t) ⊎ (s ≡ t → ⊥)
 
 -- a term has at least one level, and no more levels than symbols and variables
 abbrev pub HaveLevels : Type 0

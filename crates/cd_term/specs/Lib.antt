@@ -1,2 +1,4 @@
 pub mod Terms
+pub mod Instances
+pub mod Symbols
 pub mod Laws

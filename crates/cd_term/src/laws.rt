@@ -2,7 +2,12 @@
 //! the law, and the check of this crate proves it.
 #![tactic(auto)]
 
-ghost use Rattle.cd_term.specs.Laws.{HaveLevels, HaveVariables, SizeAfterSubstitution, DepthAfterSubstitution, VariablesAfterSubstitution, SizeAfterReplacement, DepthAfterReplacement, ReplacementsAreFound, PathsCompose, SubstitutionsCompose, AgreementDecides, AbsentVariablesDontMatter, SubtermsFollowSubstitution, RenamingsKeepSizes, RenumberingHasInverse};
+ghost use Rattle.cd_term.specs.Laws.{TermsDecide, HaveLevels, HaveVariables, SizeAfterSubstitution, DepthAfterSubstitution, VariablesAfterSubstitution, SizeAfterReplacement, DepthAfterReplacement, ReplacementsAreFound, PathsCompose, SubstitutionsCompose, AgreementDecides, AbsentVariablesDontMatter, SubtermsFollowSubstitution, RenamingsKeepSizes, RenumberingHasInverse};
+
+/// Two terms are equal or not.
+pub fn equality()
+    ensures { TermsDecide }
+{}
 
 /// A term has at least one level, and no more levels than symbols and variables.
 pub fn levels()

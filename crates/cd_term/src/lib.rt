@@ -3,12 +3,13 @@
 //!
 //! A term is within limits where it has at most 65,535 symbols and variables and at most 1,000 levels. What
 //! makes a term out of others answers [`TermFault::OutOfBounds`] before it builds anything outside of these
-//! limits. Each call but [`size`], [`depth`], copies, comparisons and drops recurs no deeper than the levels
-//! that it was given as a limit, so no more than 1,001 calls deep in [`apply`] and [`replace`].
+//! limits. What measures within limits recurs no deeper than the levels that it was given as a limit, so no
+//! more than 1,001 calls deep in [`apply`] and [`replace`]; other calls go as deep as their terms.
 #![tactic(auto)]
 
 ghost use Rattle.std.specs.Prelude.{◌≡◌};
 
+mod instances;
 pub mod laws;
 mod limits;
 mod marks;
@@ -19,10 +20,14 @@ mod sizes;
 mod substitution;
 
 use cd_list::{Copied, Equals, Sequence};
+pub use instances::{
+    all_same_applied, apply_around, are_applied, is_applied, is_beside, measure_all_applied,
+    measure_around, push_applied, same_applied,
+};
 pub use limits::{MAX_LEVELS, MAX_SYMBOLS, measure, measure_all};
 pub use marks::{beside, beside_all, same_places, same_places_all};
 pub use path::Path;
-pub use places::{at, replace};
+pub use places::{at, at_steps, is_replaced, measure_replaced, replace, substitute_replaced};
 pub use renaming::{note_variables, rank_of, renamed};
 pub use sizes::{depth, size, variable_bound};
 use std::alloc::{AllocError, Global};
@@ -64,6 +69,7 @@ impl From<AllocError> for TermFault {
 }
 
 impl Copied for Term {
+    /// Recurs to the depth of its terms: see 'How deep terms may be' in docs/ARCHITECTURE.md.
     fn copy(&self, alloc: Global) -> Result<Term, AllocError> {
         match self {
             Term::Var(k) => Ok(Term::Var(*k)),
@@ -79,6 +85,7 @@ impl Copied for Term {
 }
 
 impl Equals for Term {
+    /// Recurs to the depth of its terms: see 'How deep terms may be' in docs/ARCHITECTURE.md.
     fn equals(&self, other: &Term) -> bool {
         match (self, other) {
             (Term::Var(a), Term::Var(b)) => *a == *b,

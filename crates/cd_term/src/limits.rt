@@ -15,6 +15,7 @@ pub const MAX_LEVELS: u64 = 1_000;
 /// The size of a term of at most `symbols` symbols and variables and at most `levels` levels, or `None` for
 /// another term. It looks at no more than `symbols` of them, and recurs no more than `levels` deep below the
 /// first call.
+/// Recurs to the depth of its terms: see 'How deep terms may be' in docs/ARCHITECTURE.md.
 pub fn measure(t: &Term, symbols: u64, levels: u64) -> Option<u64>
     ensures { IsMeasure symbols levels t.now result }
 {
@@ -38,6 +39,7 @@ pub fn measure(t: &Term, symbols: u64, levels: u64) -> Option<u64>
 
 /// The sizes of several terms together, where they have at most `symbols` symbols and variables together and
 /// each has at most `levels` levels, or `None` otherwise.
+/// Recurs to the depth of its terms: see 'How deep terms may be' in docs/ARCHITECTURE.md.
 pub fn measure_all(ts: &[Term], symbols: u64, levels: u64) -> Option<u64>
     ensures { AreMeasured symbols levels ts.now result }
 {

@@ -9,6 +9,7 @@ use crate::Term;
 
 /// Whether two terms have one shape, and variable `k` stands in the first exactly where variable `m` stands
 /// in the second.
+/// Recurs to the depth of its terms: see 'How deep terms may be' in docs/ARCHITECTURE.md.
 pub fn same_places(t: &Term, k: u32, u: &Term, m: u64) -> bool
     ensures { IsTrue result ↔ (marked k t.now ≡ marked m u.now) }
 {
@@ -35,6 +36,7 @@ pub fn same_places(t: &Term, k: u32, u: &Term, m: u64) -> bool
 }
 
 /// The same of two lists of terms.
+/// Recurs to the depth of its terms: see 'How deep terms may be' in docs/ARCHITECTURE.md.
 pub fn same_places_all(ts: &[Term], k: u32, us: &[Term], m: u64) -> bool
     ensures { IsTrue result ↔ (map (marked k) ts.now ≡ map (marked m) us.now) }
 {
@@ -51,6 +53,7 @@ pub fn same_places_all(ts: &[Term], k: u32, us: &[Term], m: u64) -> bool
 
 /// The variable of the first term at the first place where the second one, whose shape is the same, has a
 /// variable of at least `n`; `None` where there is no such place.
+/// Recurs to the depth of its terms: see 'How deep terms may be' in docs/ARCHITECTURE.md.
 pub fn beside(t: &Term, u: &Term, n: u64) -> Option<u32>
     ensures { (q : ℕ → ℕ) → t.now ≡ renamed_by q u.now → result ≡ option_map q (first_from n (variables_of u.now)) }
 {
@@ -74,6 +77,7 @@ pub fn beside(t: &Term, u: &Term, n: u64) -> Option<u32>
 }
 
 /// The same of two lists of terms.
+/// Recurs to the depth of its terms: see 'How deep terms may be' in docs/ARCHITECTURE.md.
 pub fn beside_all(ts: &[Term], us: &[Term], n: u64) -> Option<u32>
     ensures { (q : ℕ → ℕ) → ts.now ≡ map (renamed_by q) us.now → result ≡ option_map q (first_from n (flat_map variables_of us.now)) }
 {

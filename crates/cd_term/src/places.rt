@@ -1,22 +1,31 @@
 //! Subterms looked at and replaced.
 #![tactic(auto)]
 
-ghost use Rattle.std.specs.Prelude.{◌≡◌, ◌++◌, ◌↔◌, IfOk, IfSome, IsSomeAnd, OnOk};
+ghost use Rattle.std.specs.Prelude.{◌≡◌, ◌↔◌, ◌≤◌, Some, IfOk, IfSome, IsSomeAnd, IsTrue};
 ghost use Rattle.std.specs.Option.{option_copied};
 ghost use Rattle.cd_term.specs.Terms.{subterm, replaced, IsMeasureOf, IsWithinLimits};
+ghost use Rattle.cd_term.specs.Instances.{replaced_under};
 
-use crate::limits::{MAX_LEVELS, MAX_SYMBOLS, measure, measure_all};
-use crate::{Args, Path, Term, TermFault};
-use cd_list::Copied;
+use crate::instances::{apply_around, is_applied, is_beside, measure_around};
+use crate::limits::{MAX_LEVELS, MAX_SYMBOLS};
+use crate::substitution::{measure_applied, substitute};
+use crate::{Path, Term, TermFault};
 use std::alloc::{AllocError, Global};
 
 /// The subterm at a path, or `None` exactly where the path leads out of the term. No memory is taken.
-#[tactic(auto, using(crate::proofs::Paths::place_rules))]
 pub fn at<'a>(t: &'a Term, path: &Path) -> Option<&'a Term>
     ensures { option_copied result ≡ subterm path.now t.now }
 {
+    at_steps(t, path.as_slice())
+}
+
+/// The same where the path is a list of steps.
+#[tactic(auto, using(crate::proofs::Paths::place_rules))]
+pub fn at_steps<'a>(t: &'a Term, path: &[u16]) -> Option<&'a Term>
+    ensures { option_copied result ≡ subterm path.now t.now }
+{
     let mut here = t;
-    for step in path.as_slice() {
+    for step in path {
         match here {
             Term::Var(_) => return None,
             Term::App(_, args) => match args.get(usize::from(*step)) {
@@ -28,14 +37,48 @@ pub fn at<'a>(t: &'a Term, path: &Path) -> Option<&'a Term>
     Some(here)
 }
 
-/// The size of a term with its subterm at a path replaced, as [`measure`] would tell of the result, which
-/// isn't built; `None` also where the path leads out of the term.
-#[tactic(auto, using(crate::proofs::Replaced::replaced_rules))]
-fn measure_replaced(t: &Term, path: &[u16], new: &Term, symbols: u64, levels: u64) -> Option<u64>
-    ensures { IsMeasureOf symbols levels (replaced path.now new.now t.now) result }
+/// Whether `u` is `t` with `r` applied, but for the subterm of `t` at a path, which gave way to `new` with `s`
+/// applied. No memory is taken.
+pub fn is_replaced(t: &Term, r: &[Term], path: &[u16], new: &Term, s: &[Term], u: &Term) -> bool
+    ensures { IsTrue result ↔ (replaced_under r.now s.now path.now new.now t.now ≡ Some u.now) }
 {
     let Some((first, rest)) = path.split_first() else {
-        return measure(new, symbols, levels);
+        return is_applied(new, s, u);
+    };
+    match (t, u) {
+        (Term::App(f, args), Term::App(g, others)) => {
+            let place = usize::from(*first);
+            let args = args.as_slice();
+            let others = others.as_slice();
+            if *f != *g {
+                return false;
+            }
+            if !is_beside(args, r, place, others) {
+                return false;
+            }
+            is_replaced(&args[place], r, rest, new, s, &others[place])
+        }
+        _ => false,
+    }
+}
+
+/// The size of `t` with `r` applied, but with the subterm of `t` at a path replaced by `new` with `s` applied,
+/// as [`crate::measure`] would tell of the result, which isn't built; `None` also where the path leads out of
+/// the term.
+pub fn measure_replaced(
+    t: &Term,
+    r: &[Term],
+    path: &[u16],
+    new: &Term,
+    s: &[Term],
+    symbols: u64,
+    levels: u64,
+) -> Option<u64>
+    ensures measure { IsMeasureOf symbols levels (replaced_under r.now s.now path.now new.now t.now) result }
+    ensures few { IfSome result (λ n. n ≤ symbols) }
+{
+    let Some((first, rest)) = path.split_first() else {
+        return measure_applied(new, s, symbols, levels);
     };
     if symbols == 0 || levels == 0 {
         return None;
@@ -47,40 +90,33 @@ fn measure_replaced(t: &Term, path: &[u16], new: &Term, symbols: u64, levels: u6
             let Some(arg) = args.get(place) else {
                 return None;
             };
+            let room = symbols - 1;
+            let Some(inner) = measure_replaced(arg, r, rest, new, s, room, levels - 1) else {
+                return None;
+            };
             let items = args.as_slice();
-            let Some(front) = measure_all(&items[..place], symbols - 1, levels - 1) else {
+            let Some(all) = measure_around(items, r, place, inner, room, levels - 1) else {
                 return None;
             };
-            let Some(inner) = measure_replaced(arg, rest, new, symbols - 1 - front, levels - 1)
-            else {
-                return None;
-            };
-            let room = symbols - 1 - front - inner;
-            let Some(back) = measure_all(&items[place + 1..], room, levels - 1) else {
-                return None;
-            };
-            Some(1 + front + inner + back)
+            Some(1 + all)
         }
     }
 }
 
-/// Copies terms to the end of a list.
-fn push_copies(alloc: Global, into: &mut Args, terms: &[Term]) -> Result<(), AllocError>
-    ensures { OnOk result (into.new ≡ into.old ++ terms.now) }
-{
-    for term in terms {
-        into.push(term.copy(alloc)?)?;
-    }
-    Ok(())
-}
-
-/// The term with another subterm at a path, of whatever size.
-#[tactic(auto, using(crate::proofs::Replaced::replaced_rules))]
-fn rebuilt(alloc: Global, t: &Term, path: &[u16], new: &Term) -> Result<Option<Term>, AllocError>
-    ensures { IfOk result (λ v. v ≡ replaced path.now new.now t.now) }
+/// The term `t` with `r` applied, but with the subterm of `t` at a path replaced by `new` with `s` applied, of
+/// whatever size; `None` exactly where the path leads out of the term.
+pub fn substitute_replaced(
+    alloc: Global,
+    t: &Term,
+    r: &[Term],
+    path: &[u16],
+    new: &Term,
+    s: &[Term],
+) -> Result<Option<Term>, AllocError>
+    ensures { IfOk result (λ v. v ≡ replaced_under r.now s.now path.now new.now t.now) }
 {
     let Some((first, rest)) = path.split_first() else {
-        return Ok(Some(new.copy(alloc)?));
+        return Ok(Some(substitute(alloc, new, s)?));
     };
     match t {
         Term::Var(_) => Ok(None),
@@ -89,15 +125,10 @@ fn rebuilt(alloc: Global, t: &Term, path: &[u16], new: &Term) -> Result<Option<T
             let Some(arg) = args.get(place) else {
                 return Ok(None);
             };
-            let Some(inner) = rebuilt(alloc, arg, rest, new)? else {
+            let Some(inner) = substitute_replaced(alloc, arg, r, rest, new, s)? else {
                 return Ok(None);
             };
-            let items = args.as_slice();
-            let mut values = Args::new(alloc);
-            push_copies(alloc, &mut values, &items[..place])?;
-            values.push(inner)?;
-            push_copies(alloc, &mut values, &items[place + 1..])?;
-            Ok(Some(Term::App(*f, values)))
+            Ok(Some(Term::App(*f, apply_around(alloc, args.as_slice(), r, place, inner)?)))
         }
     }
 }
@@ -105,6 +136,7 @@ fn rebuilt(alloc: Global, t: &Term, path: &[u16], new: &Term) -> Result<Option<T
 /// The term with another subterm at a path, or `None` exactly where the path leads out of the term.
 /// `OutOfBounds` exactly where the result would have more than 65,535 symbols and variables or more than
 /// 1,000 levels; this is found before anything is built. The subterm that is taken out doesn't count.
+/// Recurs to the depth of its terms: see 'How deep terms may be' in docs/ARCHITECTURE.md.
 pub fn replace(alloc: Global, t: &Term, path: &Path, new: &Term) -> Result<Option<Term>, TermFault>
     ensures value { IfOk result (λ v. v ≡ replaced path.now new.now t.now) }
     ensures within { IfOk result (λ v. IfSome v IsWithinLimits) }
@@ -115,8 +147,11 @@ pub fn replace(alloc: Global, t: &Term, path: &Path, new: &Term) -> Result<Optio
     let Some(_) = at(t, path) else {
         return Ok(None);
     };
-    let Some(_) = measure_replaced(t, path.as_slice(), new, MAX_SYMBOLS, MAX_LEVELS) else {
+    let none: [Term; 0] = [];
+    let none = none.as_slice();
+    let steps = path.as_slice();
+    let Some(_) = measure_replaced(t, none, steps, new, none, MAX_SYMBOLS, MAX_LEVELS) else {
         return Err(TermFault::OutOfBounds);
     };
-    Ok(rebuilt(alloc, t, path.as_slice(), new)?)
+    Ok(substitute_replaced(alloc, t, none, steps, new, none)?)
 }

@@ -31,6 +31,7 @@ fn note(t: &Term, seen: &mut Sequence<u32>) -> Result<(), AllocError>
 
 /// Adds to a list the variables of a term that aren't in it, each once, in the order of first occurrence
 /// from left to right. Where memory runs out the list is as before.
+/// Recurs to the depth of its terms: see 'How deep terms may be' in docs/ARCHITECTURE.md.
 pub fn note_variables(t: &Term, seen: &mut Sequence<u32>) -> Result<(), AllocError>
     ensures ok { OnOk result (seen.new ≡ firsts_after seen.old (variables_of t.now)) }
     ensures err { OnErr result (seen.new ≡ seen.old) }
@@ -56,6 +57,7 @@ pub fn rank_of(order: &[u32], k: u32) -> usize
 }
 
 /// The term with each variable renamed to its place in a list, those that aren't there to the length.
+/// Recurs to the depth of its terms: see 'How deep terms may be' in docs/ARCHITECTURE.md.
 pub fn renamed(alloc: Global, t: &Term, order: &[u32]) -> Result<Term, AllocError>
     requires few { length order.now < 2 ^ 32 }
     ensures { IfOk result (λ u. u ≡ substituted (ranked order.now) t.now) }

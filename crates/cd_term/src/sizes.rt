@@ -7,6 +7,7 @@ ghost use Rattle.cd_term.specs.Terms.{size_of, depth_of, bound_of};
 use crate::Term;
 
 /// The number of symbols and variables of a term, each as often as it occurs. It stops at the greatest u64.
+/// Recurs to the depth of its terms: see 'How deep terms may be' in docs/ARCHITECTURE.md.
 pub fn size(t: &Term) -> u64
     ensures { result ≡ min (size_of t.now) (2 ^ 64 - 1) }
 {
@@ -23,6 +24,7 @@ pub fn size(t: &Term) -> u64
 }
 
 /// The number of levels of a term: 1 for a variable or a constant. It stops at the greatest u64.
+/// Recurs to the depth of its terms: see 'How deep terms may be' in docs/ARCHITECTURE.md.
 pub fn depth(t: &Term) -> u64
     ensures { result ≡ min (depth_of t.now) (2 ^ 64 - 1) }
 {
@@ -39,6 +41,7 @@ pub fn depth(t: &Term) -> u64
 }
 
 /// One more than the greatest variable of a term, or 0 where it has none: each of its variables is below.
+/// Recurs to the depth of its terms: see 'How deep terms may be' in docs/ARCHITECTURE.md.
 pub fn variable_bound(t: &Term) -> u64
     ensures { result ≡ bound_of t.now }
 {

@@ -11,7 +11,7 @@ use cd_list::Copied;
 use std::alloc::{AllocError, Global};
 
 /// The value of a variable, or `None` past the substitution.
-fn value_at(s: &[Term], k: u32) -> Option<&Term>
+pub(crate) fn value_at(s: &[Term], k: u32) -> Option<&Term>
     ensures { option_copied result ≡ slice_get s.now k }
 {
     s.get(k as usize)
@@ -20,6 +20,7 @@ fn value_at(s: &[Term], k: u32) -> Option<&Term>
 /// The size that a term has once a substitution is applied, as [`measure`] would tell of the result. The
 /// result isn't built, no memory is taken, and of a large one no more than `symbols` symbols and `levels`
 /// levels are looked at. A variable past the substitution stays as it is.
+/// Recurs to the depth of its terms: see 'How deep terms may be' in docs/ARCHITECTURE.md.
 pub fn measure_applied(t: &Term, s: &[Term], symbols: u64, levels: u64) -> Option<u64>
     ensures { IsMeasure symbols levels (applied s.now t.now) result }
 {
@@ -45,7 +46,8 @@ pub fn measure_applied(t: &Term, s: &[Term], symbols: u64, levels: u64) -> Optio
 }
 
 /// The term with each variable replaced by its value, of whatever size. A variable past the substitution
-/// stays as it is. It recurs as deep as the result is.
+/// stays as it is.
+/// Recurs to the depth of its terms: see 'How deep terms may be' in docs/ARCHITECTURE.md.
 pub fn substitute(alloc: Global, t: &Term, s: &[Term]) -> Result<Term, AllocError>
     ensures { IfOk result (λ u. u ≡ applied s.now t.now) }
 {
@@ -66,6 +68,7 @@ pub fn substitute(alloc: Global, t: &Term, s: &[Term]) -> Result<Term, AllocErro
 
 /// The term with each variable replaced by its value. `OutOfBounds` exactly where the result would have more
 /// than 65,535 symbols and variables or more than 1,000 levels; this is found before anything is built.
+/// Recurs to the depth of its terms: see 'How deep terms may be' in docs/ARCHITECTURE.md.
 pub fn apply(alloc: Global, t: &Term, s: &Subst) -> Result<Term, TermFault>
     requires covered { bound_of t.now ≤ length s.now }
     ensures value { IfOk result (λ u. u ≡ applied s.now t.now) }

@@ -20,14 +20,15 @@ use Rattle.cd_symbols.specs.Symbol.{Symbol}
 use Rattle.cd_read.specs.declared.problem.Label.TheVariants.{Word}
 use Rattle.cd_read.specs.declared.problem.Role.{Role}
 use Rattle.cd_read.specs.declared.problem.Role.TheVariants.{Axiom}
-use Rattle.cd_read.specs.Words.{is_word, is_word_byte}
+use Rattle.cd_lex.specs.Bytes.{is_word_byte}
+use Rattle.cd_read.specs.Words.{is_word}
 use Rattle.cd_read.proofs.WordsLemmas.{word_all}
 use Rattle.cd_text.proofs.TermTexts.{variable_text, application_text}
 use Rattle.cd_text.specs.declared.line.LineRole.{LineRole}
 use Rattle.cd_text.specs.declared.line.LineRole.TheVariants.{Given, Plain}
 use Rattle.cd_text.specs.declared.line.LineSource.{LineSource}
 use Rattle.cd_text.specs.declared.line.LineSource.TheVariants.{File, Inference}
-use Rattle.cd_text.specs.Texts.{is_printable, shown, shown_byte, quoted, quoted_byte, word_text, joined, symbol_text, arguments_text, signed_text, literal_text, literals_text, clause_text, term_text, given_text, role_text, name_text, rule_text, source_text, line_text}
+use Rattle.cd_text.specs.Texts.{is_printable, shown, shown_byte, quoted, quoted_byte, word_text, separated, symbol_text, arguments_text, signed_text, literal_text, literals_text, clause_text, term_text, given_text, role_text, name_text, rule_text, source_text, line_text}
 use Rattle.cd_text.specs.Feeds.{feedless, TermsFit, StepFits, SourceFits, PrintedWordsHaveNoFeed, PrintedLabelsHaveNoFeed, PrintedClausesHaveNoFeed, PrintedLinesHaveNoFeed}
 
 step : (b c d e : Bool) → e ≡ (c && d) → (b && e) ≡ ((b && c) && d)
@@ -96,10 +97,10 @@ label_feedless (Word word) = word_feedless word
 
 -- ---- joined items
 
-pub joined_feedless : {A : Type 0} (between : List ℕ) (text : A → List ℕ) (xs : List A) → feedless between ≡ true → AllByRecursion (λ x. feedless (text x) ≡ true) xs → feedless (joined between text xs) ≡ true
-joined_feedless between text [] b each = refl
-joined_feedless between text (x ∷ []) b each = each.0
-joined_feedless between text (x ∷ y ∷ ys) b each = simp (feedless-append, each.0, b, joined_feedless between text (y ∷ ys) b each.1)
+pub separated_feedless : {A : Type 0} (between : List ℕ) (text : A → List ℕ) (xs : List A) → feedless between ≡ true → AllByRecursion (λ x. feedless (text x) ≡ true) xs → feedless (separated between text xs) ≡ true
+separated_feedless between text [] b each = refl
+separated_feedless between text (x ∷ []) b each = each.0
+separated_feedless between text (x ∷ y ∷ ys) b each = simp (feedless-append, each.0, b, separated_feedless between text (y ∷ ys) b each.1)
 
 -- ---- terms
 
@@ -109,7 +110,7 @@ symbol_feedless None = refl
 
 arguments_feedless : (texts : List (List ℕ)) → AllByRecursion (λ x. feedless x ≡ true) texts → feedless (arguments_text texts) ≡ true
 arguments_feedless [] each = refl
-arguments_feedless (t ∷ ts) each = simp (feedless-append, joined_feedless (codes ",") (λ text. text) (t ∷ ts) refl each)
+arguments_feedless (t ∷ ts) each = simp (feedless-append, separated_feedless (codes ",") (λ text. text) (t ∷ ts) refl each)
 
 -- a term whose variables have numbers that fit
 IsFeedless : List Symbol → Term → Type 0
@@ -146,8 +147,8 @@ each_term : (symbols : List Symbol) (ts : List Term) → TermsFit ts → AllByRe
 each_term symbols [] fit = tt
 each_term symbols (t ∷ ts) fit = (term_feedless symbols t fit.0, each_term symbols ts fit.1)
 
-terms_feedless : (symbols : List Symbol) (ts : List Term) → TermsFit ts → feedless (joined (codes ",") (term_text symbols) ts) ≡ true
-terms_feedless symbols ts fit = joined_feedless (codes ",") (term_text symbols) ts refl (each_term symbols ts fit)
+terms_feedless : (symbols : List Symbol) (ts : List Term) → TermsFit ts → feedless (separated (codes ",") (term_text symbols) ts) ≡ true
+terms_feedless symbols ts fit = separated_feedless (codes ",") (term_text symbols) ts refl (each_term symbols ts fit)
 
 each_text : (symbols : List Symbol) (ts : List Term) → TermsFit ts → AllByRecursion (λ x. feedless x ≡ true) (map (term_text symbols) ts)
 each_text symbols [] fit = tt
@@ -191,7 +192,7 @@ each_literal symbols (l ∷ ls) fit =
 
 literals_feedless : (symbols : List Symbol) (ls : List Literal) → TermsFit (clause_terms ls) → feedless (literals_text symbols ls) ≡ true
 literals_feedless symbols [] fit = refl
-literals_feedless symbols (l ∷ ls) fit = simp (feedless-append, joined_feedless (codes " | ") (literal_text symbols) (l ∷ ls) refl (each_literal symbols (l ∷ ls) fit))
+literals_feedless symbols (l ∷ ls) fit = simp (feedless-append, separated_feedless (codes " | ") (literal_text symbols) (l ∷ ls) refl (each_literal symbols (l ∷ ls) fit))
 
 pub clause_feedless : PrintedClausesHaveNoFeed
 unfolding clause_text
@@ -223,7 +224,7 @@ source_feedless : (symbols : List Symbol) (s : LineSource) → SourceFits s → 
 unfolding source_text
 source_feedless symbols (File path label) fits = simp (feedless-append, quoted_feedless path, label_feedless label)
 source_feedless symbols (Inference step parents) fits =
-    simp (feedless-append, rule_feedless symbols step fits.0, joined_feedless (codes ",") name_text parents refl (each_name parents fits.1))
+    simp (feedless-append, rule_feedless symbols step fits.0, separated_feedless (codes ",") name_text parents refl (each_name parents fits.1))
 
 pub line_feedless : PrintedLinesHaveNoFeed
 unfolding line_text

@@ -1,4 +1,4 @@
-pub mod Joined
+pub mod Separated
 pub mod TermTexts
 pub mod Feedless
 pub mod Fronts

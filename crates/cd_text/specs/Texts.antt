@@ -46,10 +46,10 @@ abbrev pub word_text : List ℕ → List ℕ
 word_text text = if is_word text then text else quoted text
 
 -- items with something between two
-abbrev pub joined : {A : Type 0} → List ℕ → (A → List ℕ) → List A → List ℕ
-joined between text [] = []
-joined between text (x ∷ []) = text x
-joined between text (x ∷ y ∷ ys) = text x ++ (between ++ joined between text (y ∷ ys))
+abbrev pub separated : {A : Type 0} → List ℕ → (A → List ℕ) → List A → List ℕ
+separated between text [] = []
+separated between text (x ∷ []) = text x
+separated between text (x ∷ y ∷ ys) = text x ++ (between ++ separated between text (y ∷ ys))
 
 -- ---- clauses
 
@@ -60,7 +60,7 @@ symbol_text None = []
 -- the texts of arguments between parentheses, with commas; a constant has none
 abbrev pub arguments_text : List (List ℕ) → List ℕ
 arguments_text [] = []
-arguments_text (t ∷ ts) = codes "(" ++ (joined (codes ",") (λ text. text) (t ∷ ts) ++ codes ")")
+arguments_text (t ∷ ts) = codes "(" ++ (separated (codes ",") (λ text. text) (t ∷ ts) ++ codes ")")
 
 -- a variable is X and its number, a symbol its word and its arguments
 abbrev pub term_step : List Symbol → Term-F (List ℕ) → List ℕ
@@ -84,7 +84,7 @@ literal_text symbols l = signed_text symbols l.positive l.atom
 
 abbrev pub literals_text : List Symbol → List Literal → List ℕ
 literals_text symbols [] = codes "$false"
-literals_text symbols (l ∷ ls) = codes "(" ++ (joined (codes " | ") (literal_text symbols) (l ∷ ls) ++ codes ")")
+literals_text symbols (l ∷ ls) = codes "(" ++ (separated (codes " | ") (literal_text symbols) (l ∷ ls) ++ codes ")")
 
 unfoldable pub clause_text : List Symbol → Clause → List ℕ
 clause_text symbols c = literals_text symbols c.literals
@@ -109,12 +109,12 @@ name_text number = codes "c" ++ decimal number
 unfoldable pub rule_text : List Symbol → Step → List ℕ
 rule_text symbols (Input index) = []
 rule_text symbols (Resolve pos i neg j subst) =
-    codes "resolve,[status(thm),at(" ++ (decimal i ++ (codes "," ++ (decimal j ++ (codes "),subst([" ++ (joined (codes ",") (term_text symbols) subst ++ codes "])]")))))
+    codes "resolve,[status(thm),at(" ++ (decimal i ++ (codes "," ++ (decimal j ++ (codes "),subst([" ++ (separated (codes ",") (term_text symbols) subst ++ codes "])]")))))
 rule_text symbols Tidy = codes "tidy,[status(thm)]"
 
 unfoldable pub source_text : List Symbol → LineSource → List ℕ
 source_text symbols (File path label) = codes "file(" ++ (quoted path ++ (codes "," ++ (label_text label ++ codes ")")))
-source_text symbols (Inference step parents) = codes "inference(" ++ (rule_text symbols step ++ (codes ",[" ++ (joined (codes ",") name_text parents ++ codes "])")))
+source_text symbols (Inference step parents) = codes "inference(" ++ (rule_text symbols step ++ (codes ",[" ++ (separated (codes ",") name_text parents ++ codes "])")))
 
 -- a derivation line, without its line feed
 unfoldable pub line_text : List Symbol → Line → List ℕ

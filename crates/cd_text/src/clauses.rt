@@ -2,7 +2,7 @@
 ghost use Rattle.std.specs.Prelude.{◌≡◌, ◌++◌, ◌∷◌, if◌then◌else◌, codes, map, slice_get, OnOk, OnErr};
 ghost use Rattle.std.specs.List.{flat_map};
 ghost use Rattle.cd_text.specs.Fronts.{KeepsFront};
-ghost use Rattle.cd_text.specs.Texts.{arguments_text, clause_text, joined, literal_text, symbol_text, term_text};
+ghost use Rattle.cd_text.specs.Texts.{arguments_text, clause_text, separated, literal_text, symbol_text, term_text};
 
 use crate::terms::{put_arguments, put_symbol, put_term};
 use crate::words::put_bytes;
@@ -45,14 +45,14 @@ pub(crate) fn put_clause(symbols: &Symbols, c: &Clause, into: &mut Bytes) -> Res
     }
 }
 
-#[tactic(auto, using(std::proofs::Common::append_assoc, crate::proofs::Joined::joined_first))]
+#[tactic(auto, using(std::proofs::Common::append_assoc, crate::proofs::Separated::separated_first))]
 fn put_literals(
     symbols: &Symbols,
     first: &Literal,
     others: &[Literal],
     into: &mut Bytes,
 ) -> Result<(), AllocError>
-    ensures text { OnOk result (into.new ≡ into.old ++ joined (codes " | ") (literal_text symbols.now) (first.now ∷ others.now)) }
+    ensures text { OnOk result (into.new ≡ into.old ++ separated (codes " | ") (literal_text symbols.now) (first.now ∷ others.now)) }
     ensures kept { KeepsFront into.old into.new }
 {
     put_literal(symbols, first, into)?;

@@ -16,6 +16,3 @@ pub use laws::{
 };
 pub use line::{Line, LineRole, LineSource, Lines, Parents, line_text};
 pub use words::{put_number, put_quoted, put_shown, put_word};
-
-#[cfg(test)]
-mod tests;

@@ -2,7 +2,7 @@
 ghost use Rattle.std.specs.Prelude.{◌≡◌, ◌++◌, ◌∷◌, codes, decimal, OnOk, OnErr};
 ghost use Rattle.std.specs.List.{flat_map};
 ghost use Rattle.cd_text.specs.Fronts.{KeepsFront};
-ghost use Rattle.cd_text.specs.Texts.{clause_text, given_text, joined, label_text, line_text, name_text, role_text, rule_text, source_text, term_text};
+ghost use Rattle.cd_text.specs.Texts.{clause_text, given_text, separated, label_text, line_text, name_text, role_text, rule_text, source_text, term_text};
 
 use crate::clauses::put_clause;
 use crate::terms::put_terms;
@@ -187,7 +187,7 @@ fn put_places(front: &[u8], i: u64, j: u64, into: &mut Bytes) -> Result<(), Allo
 // The end of a rule: its substitution.
 #[tactic(auto, using(std::proofs::Common::append_assoc))]
 fn put_subst(symbols: &Symbols, subst: &[Term], into: &mut Bytes) -> Result<(), AllocError>
-    ensures text { OnOk result (into.new ≡ into.old ++ (codes "),subst([" ++ (joined (codes ",") (term_text symbols.now) subst.now ++ codes "])]"))) }
+    ensures text { OnOk result (into.new ≡ into.old ++ (codes "),subst([" ++ (separated (codes ",") (term_text symbols.now) subst.now ++ codes "])]"))) }
     ensures kept { KeepsFront into.old into.new }
 {
     put_bytes(into, b"),subst([")?;
@@ -196,7 +196,7 @@ fn put_subst(symbols: &Symbols, subst: &[Term], into: &mut Bytes) -> Result<(), 
 }
 
 fn put_parents(parents: &[u64], into: &mut Bytes) -> Result<(), AllocError>
-    ensures text { OnOk result (into.new ≡ into.old ++ joined (codes ",") name_text parents.now) }
+    ensures text { OnOk result (into.new ≡ into.old ++ separated (codes ",") name_text parents.now) }
     ensures kept { KeepsFront into.old into.new }
 {
     match parents {
@@ -205,9 +205,9 @@ fn put_parents(parents: &[u64], into: &mut Bytes) -> Result<(), AllocError>
     }
 }
 
-#[tactic(auto, using(std::proofs::Common::append_assoc, crate::proofs::Joined::joined_first))]
+#[tactic(auto, using(std::proofs::Common::append_assoc, crate::proofs::Separated::separated_first))]
 fn put_names(first: u64, others: &[u64], into: &mut Bytes) -> Result<(), AllocError>
-    ensures text { OnOk result (into.new ≡ into.old ++ joined (codes ",") name_text (first ∷ others.now)) }
+    ensures text { OnOk result (into.new ≡ into.old ++ separated (codes ",") name_text (first ∷ others.now)) }
     ensures kept { KeepsFront into.old into.new }
 {
     put_name(first, into)?;

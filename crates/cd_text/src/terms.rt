@@ -2,7 +2,7 @@
 ghost use Rattle.std.specs.Prelude.{◌≡◌, ◌++◌, ◌∷◌, if◌then◌else◌, codes, decimal, map, slice_get, OnOk};
 ghost use Rattle.std.specs.List.{flat_map};
 ghost use Rattle.cd_text.specs.Fronts.{KeepsFront};
-ghost use Rattle.cd_text.specs.Texts.{arguments_text, joined, symbol_text, term_text};
+ghost use Rattle.cd_text.specs.Texts.{arguments_text, separated, symbol_text, term_text};
 
 use crate::words::{put_bytes, put_number, put_word};
 use cd_outside::Bytes;
@@ -95,7 +95,7 @@ pub(crate) fn put_terms(
     terms: &[Term],
     into: &mut Bytes,
 ) -> Result<(), AllocError>
-    ensures text { OnOk result (into.new ≡ into.old ++ joined (codes ",") (term_text symbols.now) terms.now) }
+    ensures text { OnOk result (into.new ≡ into.old ++ separated (codes ",") (term_text symbols.now) terms.now) }
     ensures kept { KeepsFront into.old into.new }
 {
     match terms {
@@ -104,14 +104,14 @@ pub(crate) fn put_terms(
     }
 }
 
-#[tactic(auto, using(std::proofs::Common::append_assoc, crate::proofs::Joined::joined_first))]
+#[tactic(auto, using(std::proofs::Common::append_assoc, crate::proofs::Separated::separated_first))]
 fn put_joined(
     symbols: &Symbols,
     first: &Term,
     others: &[Term],
     into: &mut Bytes,
 ) -> Result<(), AllocError>
-    ensures text { OnOk result (into.new ≡ into.old ++ joined (codes ",") (term_text symbols.now) (first.now ∷ others.now)) }
+    ensures text { OnOk result (into.new ≡ into.old ++ separated (codes ",") (term_text symbols.now) (first.now ∷ others.now)) }
     ensures kept { KeepsFront into.old into.new }
 {
     put_term(symbols, first, into)?;

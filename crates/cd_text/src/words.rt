@@ -1,10 +1,12 @@
 //! Numbers and words. Where memory runs out, what stood before still stands at the front.
 ghost use Rattle.std.specs.Prelude.{◌≡◌, ◌++◌, ◌∷◌, [], decimal, OnOk};
 ghost use Rattle.std.specs.List.{flat_map, list_all};
-ghost use Rattle.cd_read.specs.Words.{is_lower, is_word, is_word_byte};
+ghost use Rattle.cd_lex.specs.Bytes.{is_lower, is_word_byte};
+ghost use Rattle.cd_read.specs.Words.{is_word};
 ghost use Rattle.cd_text.specs.Fronts.{KeepsFront};
 ghost use Rattle.cd_text.specs.Texts.{quoted, quoted_byte, shown, shown_byte, word_text};
 
+use cd_lex::{is_lower, is_word_byte};
 use cd_outside::Bytes;
 use itoa::Buffer;
 use std::alloc::AllocError;
@@ -105,12 +107,6 @@ fn is_word(text: &[u8]) -> bool
     }
 }
 
-fn is_lower(b: u8) -> bool
-    ensures { result ≡ is_lower b }
-{
-    b'a' <= b && b <= b'z'
-}
-
 fn are_word_bytes(text: &[u8]) -> bool
     ensures { result ≡ list_all is_word_byte text.now }
 {
@@ -122,10 +118,4 @@ fn are_word_bytes(text: &[u8]) -> bool
         rest = after;
     }
     true
-}
-
-fn is_word_byte(b: u8) -> bool
-    ensures { result ≡ is_word_byte b }
-{
-    is_lower(b) || (b'A' <= b && b <= b'Z') || (b'0' <= b && b <= b'9') || b == b'_'
 }

@@ -1,5 +1,6 @@
 -- What the account of a finished run says of its answer.
-use Rattle.std.proofs.Common.{◌≡◌, ℕ, Bool, cond, List, [], ◌∷◌, length, replicate, Option, Some, None, IsSome, refl, sym, ap, ◌∙◌, subst, append-nil}
+use Rattle.std.proofs.Common.{◌≡◌, ℕ, Bool, cond, List, [], ◌∷◌, length, replicate, sum_by, Option, Some, None, IsSome, refl, sym, ap, ◌∙◌, subst, append-nil, zero-add}
+use Rattle.std.proofs.lemmas.List.{length-replicate}
 use Rattle.cd_clause.specs.Truth.{Models}
 use Rattle.cd_read.specs.declared.problem.Problem.{Problem}
 use Rattle.cd_text.specs.declared.line.Line.{Line}
@@ -42,7 +43,9 @@ account_recorded a p limits s f account =
     let events : recorded a.journals a.order ≡ s.journal =
     ap (λ (j : List (List Event)). recorded j a.order) account.journals ∙ ap (λ (o : List ℕ). recorded (s.journal ∷ []) o) account.order ∙ recorded_one s.journal in
     let run : Runs p a.limits s.journal (alone s) = subst (λ (l : Limits). Runs p l s.journal (alone s)) (sym account.limits_are) f.reached.run in
-    record { run = subst (λ (es : List Event). Runs p a.limits es (alone s)) (sym events) run; journals = sym account.journals }
+    let each : length a.order ≡ sum_by length a.journals =
+    ap (λ (o : List ℕ). length o) account.order ∙ length-replicate (length s.journal) 0 ∙ sym (zero-add (length s.journal)) ∙ ap (λ (j : List (List Event)). sum_by length j) (sym account.journals) in
+    record { run = subst (λ (es : List Event). Runs p a.limits es (alone s)) (sym events) run; journals = sym account.journals; order = each }
 
 -- what was recorded at the end of a closed run has the models of the problem
 recorded_models : (p : Problem) (limits : Limits) (s : Local) → IsFinished p limits s → IsQuiet s → HaveSameModels (recorded_clauses s) (input_clauses p.inputs)

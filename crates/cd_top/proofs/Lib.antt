@@ -1,3 +1,4 @@
 pub mod Chains
 pub mod Accepting
 pub mod Ending
+pub mod Lines

@@ -1,4 +1,5 @@
 -- What the verdict of the one peer makes of the answer and of its text.
+-- Beyond the headline: no clause of `prove` reaches this file.
 use Rattle.std.specs.Prelude.{◌≡◌, ℕ, ⊤, List, Option, None, Some}
 use Rattle.cd_read.specs.declared.problem.Problem.{Problem}
 use Rattle.cd_text.specs.declared.line.Line.{Line}

@@ -1,5 +1,5 @@
 -- What the top call promises of its answer.
-use Rattle.std.specs.Prelude.{◌≡◌, ℕ, ◌+◌, ◌⊎◌, ⊤, Bool, true, false, if◌then◌else◌, List, [], ◌∷◌, ◌++◌, map, Option, None, Some}
+use Rattle.std.specs.Prelude.{◌≡◌, ℕ, ◌+◌, ◌⊎◌, ⊤, Bool, true, false, if◌then◌else◌, List, [], ◌∷◌, ◌++◌, length, map, sum_by, Option, None, Some}
 use Rattle.std.specs.Io.KnownBytes.{Appends}
 use Rattle.std.specs.List.{AllByRecursion}
 use Rattle.std.specs.declared.result.Result.TheVariants.{Ok, Err}
@@ -23,6 +23,7 @@ use Rattle.cd_build.specs.Derivation.{IsDerivation}
 use Rattle.cd_top.specs.declared.answer.Answer.{Answer}
 use Rattle.cd_top.specs.declared.answer.Answer.TheVariants.{Refuted, Saturated, Spent, Usage, Refused, LibraryFault, SinkFault, Memory}
 use Rattle.cd_top.specs.declared.answer.Account.{Account}
+use Rattle.cd_top.specs.Pieces.{pieces_of, StopsInLine}
 use Rattle.cd_top.specs.Texts.{refuted_text, saturated_text, spent_text, usage_text, refused_text, unread_text}
 
 -- ---- the exit status
@@ -94,10 +95,12 @@ pub record HasDefaults (account : Account) : Type 0 where
   pub peers : account.peers ≡ 1
   pub limits : account.limits ≡ record { steps = 50000 }
 
--- the account's journals, taken in the account's order, lead from the problem's start to this world, and are used up
+-- the account's journals, taken in the account's order, lead from the problem's start to this world, and are used up; the order has an entry
+-- for each of their events
 pub record IsRecorded (account : Account) (p : Problem) (w : World) : Type 0 where
   pub run : Runs p account.limits (recorded account.journals account.order) w
   pub journals : map journal_of w.locals ≡ account.journals
+  pub order : length account.order ≡ sum_by length account.journals
 
 -- what holds of the problem and the world after each front of the recorded run
 abbrev pub AtEachMoment : (Problem → World → Type 0) → Account → Option Problem → Type 0
@@ -209,6 +212,18 @@ Taken Usage before now text = Appends before now text
 Taken (Refused w) before now text = Appends before now text
 Taken (LibraryFault path) before now text = Appends before now text
 Taken Memory before now text = Appends before now text
+
+-- each line of the text, with its line feed, was one piece that the sink took; with its fault it took some of them, and then a front of the next
+-- line, which may be empty
+abbrev pub TakenByLines : Answer → Option (List ℕ) → Option (List ℕ) → Option (List (List ℕ)) → Option (List (List ℕ)) → List ℕ → Type 0
+TakenByLines SinkFault bytes bytes_now pieces pieces_now text = StopsInLine bytes bytes_now pieces pieces_now text
+TakenByLines (Refuted peer) bytes bytes_now pieces pieces_now text = Gives pieces pieces_now (pieces_of text)
+TakenByLines Saturated bytes bytes_now pieces pieces_now text = Gives pieces pieces_now (pieces_of text)
+TakenByLines (Spent peer) bytes bytes_now pieces pieces_now text = Gives pieces pieces_now (pieces_of text)
+TakenByLines Usage bytes bytes_now pieces pieces_now text = Gives pieces pieces_now (pieces_of text)
+TakenByLines (Refused w) bytes bytes_now pieces pieces_now text = Gives pieces pieces_now (pieces_of text)
+TakenByLines (LibraryFault path) bytes bytes_now pieces pieces_now text = Gives pieces pieces_now (pieces_of text)
+TakenByLines Memory bytes bytes_now pieces pieces_now text = Gives pieces pieces_now (pieces_of text)
 
 -- an answer is the one that was made, unless the sink failed; the one that was made is no fault of the sink
 abbrev pub IsAnswerTo : Answer → Answer → Type 0

@@ -1,4 +1,5 @@
 pub mod Words
+pub mod Pieces
 pub mod Texts
 pub mod Headline
 pub mod Ends

@@ -1,4 +1,5 @@
 -- The text of each answer.
+-- Beyond the headline: no clause of `prove` reaches first_line_length.
 use Rattle.std.specs.Prelude.{ℕ, ◌+◌, ◌==◌, min, List, [], ◌∷◌, ◌++◌, length, codes, decimal}
 use Rattle.std.specs.List.{flat_map, position_or_len}
 use Rattle.cd_symbols.specs.Symbol.{Symbol}

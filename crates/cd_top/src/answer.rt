@@ -84,7 +84,7 @@ pub struct Account {
 /// The exit status, the answer, and the answer as it was before the first write: `made` equals `answer`
 /// unless that is `SinkFault`.
 #[derive(Drop)]
-pub struct Outcome {
+pub struct ProveOutcome {
     pub status: u8,
     pub answer: Answer,
     pub made: Answer,

@@ -3,9 +3,9 @@ ghost use Rattle.std.specs.Prelude.{◌≡◌, ◌≢◌, ◌<◌, [], None, len
 ghost use Rattle.std.specs.Option.{option_copied};
 ghost use Rattle.cd_outside.specs.Outside.{Rose};
 ghost use Rattle.cd_top.specs.Words.{file_word, begins_with_hyphen};
-ghost use Rattle.cd_top.specs.Headline.{status_of, IsRead, IsOfFile, IsLibraryFault, HasDefaults, RunEnds, AtEachMoment, HasModelsOf, AccountsForAll, Refutes, TextIs, Taken, IsAnswerTo};
+ghost use Rattle.cd_top.specs.Headline.{status_of, IsRead, IsOfFile, IsLibraryFault, HasDefaults, RunEnds, AtEachMoment, HasModelsOf, AccountsForAll, Refutes, TextIs, Taken, TakenByLines, IsAnswerTo};
 
-use crate::answer::{Account, Answer, Outcome};
+use crate::answer::{Account, Answer, ProveOutcome};
 use crate::sending::send;
 use crate::solving::{STEPS, solve};
 use crate::texts::{refused_text, unread_text};
@@ -28,7 +28,7 @@ pub fn prove<R: Threads + Wait + Sync, L: Library, K: Sink, G: Gate + Sync>(
     library: &mut L,
     sink: &mut K,
     _gate: &G,
-) -> Outcome
+) -> ProveOutcome
     // The words name a file, and its bytes spell the problem.
     ensures read { IsRead (file_word words.now) (L.told library.old) (L.told library.new) result.made result.account.problem }
     ensures file { IsOfFile (L.holds library.old) (file_word words.now) result.made result.account.problem }
@@ -42,9 +42,10 @@ pub fn prove<R: Threads + Wait + Sync, L: Library, K: Sink, G: Gate + Sync>(
     ensures accounted { AtEachMoment AccountsForAll result.account result.account.problem }
     ensures refutes { Refutes result.made result.account.problem }
 
-    // The text, and what the sink took of it.
+    // The text, and what the sink took of it: each line in one piece.
     ensures text { TextIs result.made result.account.text }
     ensures taken { Taken result.answer (K.taken sink.old) (K.taken sink.new) result.account.text }
+    ensures pieces { TakenByLines result.answer (K.taken sink.old) (K.taken sink.new) (K.pieces sink.old) (K.pieces sink.new) result.account.text }
     ensures sink_fault { result.answer ≡ Answer.SinkFault → Rose (K.faults sink.old) (K.faults sink.new) }
 
     ensures answer { IsAnswerTo result.made result.answer }
@@ -60,7 +61,7 @@ pub fn prove<R: Threads + Wait + Sync, L: Library, K: Sink, G: Gate + Sync>(
         Ok(()) => copy,
         Err(_) => Answer::SinkFault,
     };
-    Outcome {
+    ProveOutcome {
         status: answer.status(),
         answer,
         made,
@@ -68,7 +69,7 @@ pub fn prove<R: Threads + Wait + Sync, L: Library, K: Sink, G: Gate + Sync>(
     }
 }
 
-fn without_memory(alloc: Global) -> Outcome
+fn without_memory(alloc: Global) -> ProveOutcome
     ensures made { result.made ≡ Answer.Memory }
     ensures answer { result.answer ≡ Answer.Memory }
     ensures status { result.status ≡ 71 }
@@ -78,7 +79,7 @@ fn without_memory(alloc: Global) -> Outcome
     ensures order { result.account.order ≡ [] }
     ensures defaults { HasDefaults result.account }
 {
-    Outcome {
+    ProveOutcome {
         status: 71,
         answer: Answer::Memory,
         made: Answer::Memory,

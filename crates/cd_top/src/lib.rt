@@ -11,5 +11,5 @@ mod sending;
 mod solving;
 mod texts;
 
-pub use answer::{Account, Answer, Outcome, Turns};
+pub use answer::{Account, Answer, ProveOutcome, Turns};
 pub use call::prove;

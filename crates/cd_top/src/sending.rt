@@ -1,8 +1,9 @@
 //! Writes the text, line by line.
 ghost use Rattle.std.specs.Prelude.{◌≡◌, ◌<◌, ◌≤◌, ◌==◌, length, position, OnOk, OnErr};
 ghost use Rattle.std.specs.Io.KnownBytes.{Appends};
-ghost use Rattle.cd_outside.specs.Outside.{HasCause, AppendsFront};
+ghost use Rattle.cd_outside.specs.Outside.{HasCause, AppendsFront, Gives};
 ghost use Rattle.cd_top.specs.Texts.{first_line_length};
+ghost use Rattle.cd_top.specs.Pieces.{pieces_of, StopsInLine};
 
 use cd_outside::{Sink, SinkFailed};
 
@@ -11,6 +12,8 @@ pub fn send<K: Sink>(sink: &mut K, text: &[u8]) -> Result<(), SinkFailed>
     ensures cause { HasCause (K.faults sink.old) (K.faults sink.new) result }
     ensures whole { OnOk result (Appends (K.taken sink.old) (K.taken sink.new) text.now) }
     ensures front { OnErr result (AppendsFront (K.taken sink.old) (K.taken sink.new) text.now) }
+    ensures pieces { OnOk result (Gives (K.pieces sink.old) (K.pieces sink.new) (pieces_of text.now)) }
+    ensures short { OnErr result (StopsInLine (K.taken sink.old) (K.taken sink.new) (K.pieces sink.old) (K.pieces sink.new) text.now) }
 {
     let mut rest = text;
     while !rest.is_empty() {

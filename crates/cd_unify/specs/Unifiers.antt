@@ -1,4 +1,5 @@
 -- Unifiers and matches of two lists of terms, over all substitutions: functions from variables to terms.
+-- Beyond the headline: no clause of `prove` reaches this file.
 use Rattle.std.specs.Prelude.{ℕ, ◌≡◌, ◌<◌, List, length, map, Option, None, slice_index_or, take, IfSome, Bool, IsTrue, ◌↔◌, MatchOption}
 use Rattle.std.specs.List.{flat_map}
 use Rattle.cd_term.specs.declared.Term.{Term}

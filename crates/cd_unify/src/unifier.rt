@@ -15,6 +15,7 @@ use std::alloc::Global;
 
 /// Whether all variables of some terms are below a number, as [`mgu`] and [`matches`](crate::matches) ask of
 /// their caller.
+/// Recurs to the depth of its terms: see 'How deep terms may be' in docs/ARCHITECTURE.md.
 pub fn are_below(terms: &[Term], vars: u32) -> bool
     ensures { IsTrue result ↔ (greatest (map bound_of terms.now) ≤ vars) }
 {
@@ -29,6 +30,7 @@ pub fn are_below(terms: &[Term], vars: u32) -> bool
 /// The most general unifier of two lists of one length, in normal form, with a term for each variable below
 /// `vars`. `None` exactly where there is no unifier. `OutOfBounds` only where there is one, and its terms
 /// together have more than 65,535 symbols and variables, or one of them has more than 1,000 levels.
+/// Recurs to the depth of its terms: see 'How deep terms may be' in docs/ARCHITECTURE.md.
 pub fn mgu(alloc: Global, left: &Args, right: &Args, vars: u32) -> Result<Option<Subst>, TermFault>
     requires as_many { length left.now ≡ length right.now }
     requires left { greatest (map bound_of left.now) ≤ vars }

@@ -1,5 +1,5 @@
 use Rattle.cd_infer.specs.Conclusions.{ResolvesFrom}
-use Rattle.cd_infer.proofs.Gathering.{gathered_next}
+use Rattle.cd_list.proofs.Gathering.{gathered_next}
 use Rattle.cd_infer.proofs.pair.Goals as goal
 
 pub loop-i-preserved : goal.loop-i-preserved

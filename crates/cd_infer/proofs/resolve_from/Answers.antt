@@ -1,5 +1,5 @@
 use Rattle.cd_infer.specs.Conclusions.{ResolvesAt}
-use Rattle.cd_infer.proofs.Gathering.{gathered_next}
+use Rattle.cd_list.proofs.Gathering.{gathered_next}
 use Rattle.cd_infer.proofs.resolve_from.Goals as goal
 
 pub loop-j-preserved : goal.loop-j-preserved

@@ -1,5 +1,5 @@
 use Rattle.std.specs.List.{range_with_len}
-use Rattle.cd_infer.specs.Gathered.{Gathered}
+use Rattle.cd_list.specs.Lists.{Gathered}
 use Rattle.cd_infer.specs.Conclusions.{ResolvesAt}
 use Rattle.cd_infer.proofs.resolve_from.Given as goal
 

@@ -1,7 +1,7 @@
 use Rattle.std.proofs.Common.{refl}
 use Rattle.std.proofs.lemmas.Bool.{false≢true}
 use Rattle.cd_clause.specs.Clauses.{AreOpposite}
-use Rattle.cd_clause.proofs.AmongLemmas.{among_read, among_next, among_none}
+use Rattle.cd_list.proofs.Among.{among_read, among_next, among_none}
 use Rattle.cd_clause.proofs.tautology.has_opposite.Goals as goal
 
 pub returns-then-are_opposite : goal.returns-then-are_opposite

@@ -1,4 +1,4 @@
-use Rattle.cd_clause.proofs.AmongLemmas.{tautology_else}
+use Rattle.cd_clause.proofs.TautologyLemmas.{tautology_else}
 use Rattle.cd_clause.proofs.tautology.is_tautology.Goals as goal
 
 pub returns-else-has_trivial : goal.returns-else-has_trivial

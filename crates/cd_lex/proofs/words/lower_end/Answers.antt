@@ -1,5 +1,5 @@
 use Rattle.std.proofs.Common.{drop, sym, ◌∙◌}
-use Rattle.cd_lex.specs.Bytes.{is_lower, is_word}
+use Rattle.cd_lex.specs.Bytes.{is_lower, is_word_byte}
 use Rattle.cd_lex.specs.Tokens.{One, Many}
 use Rattle.cd_lex.proofs.FormLemmas.{no_one, no_one_end, no_then}
 use Rattle.cd_lex.proofs.WordLemmas.{word_at}
@@ -14,7 +14,7 @@ pub returns-clause-longest : goal.returns-clause-longest
 returns-clause-longest c =
     let bytes = c.args.bytes.now in
     let at = c.args.at in
-    no_then (One is_lower) (Many is_word) (drop at bytes) (elim c.else-at-bytes.branch [
+    no_then (One is_lower) (Many is_word_byte) (drop at bytes) (elim c.else-at-bytes.branch [
       | else-at-bytes-via-then-at-bytes+else-is_lower w ↦ no_one is_lower bytes at w.if-at-bytes.true (sym w.is_lower.ensures ∙ w.if-is_lower.false)
       | else-at-bytes-via-else-at-bytes w ↦ no_one_end is_lower bytes at w.if-at-bytes.false
     ])

@@ -2,8 +2,8 @@ use Rattle.cd_peer.proofs.ReadyLemmas.{ready_start, ready_step}
 use Rattle.cd_peer.proofs.RunLemmas.{reached_start, reached_turn, none_is, some_is, turns_less}
 use Rattle.cd_peer.proofs.running.run.Goals as goal
 
-pub settle-requires : goal.settle-requires
-settle-requires c = ready_start c.args.problem.now c.args.limits c.in_ok-local.local c.requires.propositional c.requires.room c.in_ok-local.ensures
+pub settle_pending-requires : goal.settle_pending-requires
+settle_pending-requires c = ready_start c.args.problem.now c.args.limits c.in_ok-local.local c.requires.propositional c.requires.room c.in_ok-local.ensures
 
 pub turns-init : goal.turns-init
 turns-init c = record {
@@ -12,8 +12,8 @@ turns-init c = record {
   none = c.in_ok-local-2.ensures.settled.none;
 }
 
-pub settle-requires-in-turns : goal.settle-requires-in-turns
-settle-requires-in-turns c = ready_step c.turns.local c.in_ok-next.ensures.event c.in_ok-next.next c.turns.invariant.ready c.in_ok-next.ensures.step
+pub settle_pending-requires-in-turns : goal.settle_pending-requires-in-turns
+settle_pending-requires-in-turns c = ready_step c.turns.local c.in_ok-next.ensures.event c.in_ok-next.next c.turns.invariant.ready c.in_ok-next.ensures.step
 
 pub turns-smaller : goal.turns-smaller
 turns-smaller c =

@@ -2,7 +2,7 @@ use Rattle.std.proofs.Common.{◌≡◌, refl, subst}
 use Rattle.std.proofs.lemmas.Bool.{false≢true}
 use Rattle.std.proofs.lemmas.List.{take_all}
 use Rattle.std.specs.List.{AllByRecursion}
-use Rattle.cd_clause.specs.Clauses.{Among}
+use Rattle.cd_list.specs.Lists.{Among}
 use Rattle.cd_peer.proofs.TurnLemmas.{all_more, not_all}
 use Rattle.cd_peer.proofs.subsumption.all_occur.Goals as goal
 

@@ -1,6 +1,6 @@
 use Rattle.std.proofs.Common.{◌≡◌, take}
 use Rattle.std.specs.List.{AllByRecursion}
-use Rattle.cd_clause.specs.Clauses.{Among}
+use Rattle.cd_list.specs.Lists.{Among}
 use Rattle.cd_peer.proofs.subsumption.all_occur.Given as goal
 
 abbrev pub invariant-loop-literal : goal.invariant-loop-literal

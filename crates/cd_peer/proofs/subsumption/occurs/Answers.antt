@@ -1,6 +1,6 @@
 use Rattle.std.proofs.Common.{◌≡◌, refl}
 use Rattle.std.proofs.lemmas.Bool.{false≢true}
-use Rattle.cd_clause.proofs.AmongLemmas.{among_read, among_next, among_none}
+use Rattle.cd_list.proofs.Among.{among_read, among_next, among_none}
 use Rattle.cd_peer.proofs.subsumption.occurs.Goals as goal
 
 pub returns-then-equals : goal.returns-then-equals

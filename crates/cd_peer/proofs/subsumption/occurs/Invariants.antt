@@ -1,5 +1,5 @@
 use Rattle.std.proofs.Common.{◌≡◌, drop}
-use Rattle.cd_clause.specs.Clauses.{Among}
+use Rattle.cd_list.specs.Lists.{Among}
 use Rattle.cd_peer.proofs.subsumption.occurs.Given as goal
 
 abbrev pub invariant-loop-other : goal.invariant-loop-other

@@ -5,7 +5,7 @@ use Rattle.cd_read.specs.declared.problem.Problem.{Problem}
 use Rattle.cd_read.specs.declared.problem.Wrong.{Wrong}
 use Rattle.cd_read.specs.declared.problem.What.TheVariants.{NotBuilt}
 use Rattle.cd_read.specs.Files.{IsFile}
-use Rattle.cd_read.specs.Problems.{Reads}
+use Rattle.cd_read.specs.Problems.{Reads, IsWholeWrong}
 use Rattle.cd_read.proofs.WholeLemmas.{is_whole, is_whole_wrong}
 use Rattle.cd_read.proofs.reader.read_problem.Goals as goal
 
@@ -29,4 +29,4 @@ returns-clause-whole_fault g c =
     let front : AppendsFirst file 65537 [] bytes = subst (λ (b : List ℕ). AppendsFirst file 65537 [] b) (sym c.as_slice.ensures) given in
     let none : (ss : List Statement) → IsFile bytes ss → ⊥ = subst (λ (found : Option Problem). IfNone found ((ss : List Statement) → IsFile bytes ss → ⊥)) c.in-None.is c.in_ok-problem.ensures.none in
     let same : wrong ≡ record { what = NotBuilt; file = path; at = 0 } = search rules in
-    is_whole_wrong path bytes file wrong front (none, same)
+    λ (w : Wrong) is. let this : wrong ≡ w = cc in subst (IsWholeWrong path file) this (is_whole_wrong path bytes file wrong front (none, same))

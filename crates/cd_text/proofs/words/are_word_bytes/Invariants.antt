@@ -1,6 +1,6 @@
 use Rattle.std.proofs.Common.{◌≡◌, length}
 use Rattle.std.specs.List.{list_all}
-use Rattle.cd_read.specs.Words.{is_word_byte}
+use Rattle.cd_lex.specs.Bytes.{is_word_byte}
 use Rattle.cd_text.proofs.words.are_word_bytes.Given as goal
 
 abbrev pub invariant-loop-rest : goal.invariant-loop-rest

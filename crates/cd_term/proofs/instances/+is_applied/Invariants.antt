@@ -1,0 +1,7 @@
+use Rattle.std.proofs.Common.{◌≡◌, map, take, length}
+use Rattle.cd_term.specs.declared.Term.TheVariants.{Var}
+use Rattle.cd_term.specs.Terms.{substituted, applied}
+use Rattle.cd_term.proofs.instances.+is_applied.Given as goal
+
+abbrev pub invariant-loop-i : goal.invariant-loop-i
+invariant-loop-i l = (length l.args ≡ length l.others) × (map (applied l.s) (take l.i l.args) ≡ map (substituted Var) (take l.i l.others))

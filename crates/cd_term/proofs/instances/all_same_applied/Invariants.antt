@@ -1,0 +1,6 @@
+use Rattle.std.proofs.Common.{◌≡◌, map, take, length}
+use Rattle.cd_term.specs.Terms.{applied}
+use Rattle.cd_term.proofs.instances.all_same_applied.Given as goal
+
+abbrev pub invariant-loop-i : goal.invariant-loop-i
+invariant-loop-i l = (length l.ts ≡ length l.us) × (map (applied l.s) (take l.i l.ts) ≡ map (applied l.r) (take l.i l.us))
