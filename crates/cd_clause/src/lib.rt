@@ -113,6 +113,3 @@ impl Clause {
         self.literals.is_empty()
     }
 }
-
-#[cfg(test)]
-mod tests;

@@ -22,6 +22,3 @@ pub use order::{Numbers, Order, Select};
 pub use sides::Side;
 pub use variables::{least_variable, next_variable};
 pub use weights::weight;
-
-#[cfg(test)]
-mod tests;

@@ -16,6 +16,3 @@ mod selection;
 pub use keys::key_cmp;
 pub use literals::literal_greater;
 pub use selection::eligible;
-
-#[cfg(test)]
-mod tests;

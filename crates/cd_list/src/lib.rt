@@ -14,6 +14,3 @@ pub use copied::{Copied, Equals, same_items, strip_items};
 pub use queue::Queue;
 pub use sequence::Sequence;
 pub use text::Text;
-
-#[cfg(test)]
-mod tests;

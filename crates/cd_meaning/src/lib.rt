@@ -23,9 +23,6 @@ use std::marker::Model;
 use tables::are_tables;
 use truth::{is_true, term_value};
 
-#[cfg(test)]
-mod tests;
-
 /// The values of a symbol: one for each list of as many elements as its arity, in the order of these lists,
 /// in which the first element counts most. In size 2 a symbol of two arguments has its values at (0, 0),
 /// (0, 1), (1, 0) and (1, 1).

@@ -35,6 +35,3 @@ impl Equals for How {
         )
     }
 }
-
-#[cfg(test)]
-mod tests;

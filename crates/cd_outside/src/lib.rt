@@ -26,6 +26,3 @@ pub use shelf::{Calls, Shelf, Shelved};
 pub use sink::{Sink, SinkFailed};
 pub use standard::{Standard, StandardOver};
 pub use writer::{MachineWriter, Writer};
-
-#[cfg(test)]
-mod tests;

@@ -94,6 +94,3 @@ impl Equals for Term {
         }
     }
 }
-
-#[cfg(test)]
-mod tests;

@@ -22,6 +22,3 @@ pub use matching::{all_occur, matches};
 pub use robinson::plain_mgu;
 pub use shapes::{may_match, may_match_all};
 pub use unifier::{are_below, mgu};
-
-#[cfg(test)]
-mod tests;

@@ -1,9 +1,7 @@
 //! Truth over the elements 0 and 1: `a` is 0, `f` exchanges the two, `p` is true of 0 alone, `q` is true of 0
 //! and 1, in this order, alone, and `g` has the value 1 there and 0 elsewhere.
-#![tactic(auto)]
-
-use crate::{Interp, Table, Tables, Values};
 use cd_clause::{Atom, Clause, Literal, Literals, variables};
+use cd_meaning::{Interp, Table, Tables, Values};
 use cd_symbols::Kind;
 use cd_term::{Args, Term};
 use std::alloc::{AllocError, Global};

@@ -1,5 +1,5 @@
 //! That each call which can answer want of memory succeeds where there is memory, and what it then gives.
-use crate::{Copied, Equals, Queue, Sequence, Text};
+use cd_list::{Copied, Equals, Queue, Sequence, Text};
 use std::test::Fail;
 
 #[test]

@@ -1,9 +1,7 @@
 //! Small clauses, with answers found from the rules.
-#![tactic(auto)]
-
-use crate::{eligible, key_cmp, laws, literal_greater};
 use cd_clause::{Atom, Clause, Literal, Literals, within};
 use cd_kbo::{Order, Select};
+use cd_key::{eligible, key_cmp, laws, literal_greater};
 use cd_names::Name;
 use cd_term::{Args, Term};
 use std::alloc::{AllocError, Global};

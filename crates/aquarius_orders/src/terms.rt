@@ -1,9 +1,7 @@
 //! Comparisons of small terms, with answers found from the rules.
-#![tactic(auto)]
-
 ghost use Rattle.std.specs.Prelude.{◌≤◌};
 
-use crate::{Order, Select, greater, ground_cmp};
+use cd_kbo::{Order, Select, greater, ground_cmp};
 use cd_list::{Copied, Equals};
 use cd_term::{Args, Term, size};
 use std::alloc::{AllocError, Global};

@@ -1,9 +1,9 @@
 //! What no clause says: that calls succeed where there is memory, what real files and streams do, and what
 //! examples of failing calls give.
-use crate::{
+use cd_list::Sequence;
+use cd_outside::{
     Bytes, FetchFault, Folder, Gate, Library, OpenGate, Page, Shelf, Sink, Standard, Text,
 };
-use cd_list::Sequence;
 use std::alloc::{AllocError, Global};
 use std::io::Write;
 use std::{env, fs, io, process};

@@ -1,7 +1,5 @@
 //! That each call which can answer want of memory succeeds where there is memory, and what it then gives.
-#![tactic(auto)]
-
-use crate::{
+use cd_clause::{
     Atom, Clause, Literal, Literals, is_tautology, is_tidied, join, renumber, size, tidy,
     variables, within,
 };

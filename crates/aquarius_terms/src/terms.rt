@@ -1,12 +1,10 @@
 //! That each call which can answer want of memory succeeds where there is memory, what it then gives, and
 //! the limits.
-#![tactic(auto)]
-
-use crate::{
+use cd_list::{Copied, Equals, Sequence};
+use cd_term::{
     Args, Path, Subst, Term, apply, at, beside, depth, note_variables, renamed, replace,
     same_places, size, substitute,
 };
-use cd_list::{Copied, Equals, Sequence};
 use std::alloc::{AllocError, Global};
 use std::test::Fail;
 

@@ -1,6 +1,6 @@
 //! Orders, owners and waves on small cases.
-use crate::{Count, Counts, Name, Policy, Stamp, Token, owner_of, wave_closed};
 use cd_list::{Copied, Equals};
+use cd_names::{Count, Counts, Name, Policy, Stamp, Token, owner_of, wave_closed};
 use std::test::Fail;
 
 #[test]
