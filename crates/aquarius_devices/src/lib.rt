@@ -1,9 +1,5 @@
-//! Tests of lists, names and devices, row by row, apart from the crates that they test.
+//! Tests of devices, row by row, apart from the crate that they test.
 #![tactic(auto)]
 
 #[cfg(test)]
 mod devices;
-#[cfg(test)]
-mod lists;
-#[cfg(test)]
-mod names;

@@ -1,7 +1,5 @@
-//! Tests of the orders of terms, literals and clauses, row by row, apart from the crates that they test.
+//! Tests of the orders of terms, row by row, apart from the crate that they test.
 #![tactic(auto)]
 
-#[cfg(test)]
-mod clauses;
 #[cfg(test)]
 mod terms;

@@ -1,9 +1,5 @@
-//! Tests of terms and clauses, and of truth over two elements, row by row, apart from the crates that they test.
+//! Tests of terms, row by row, apart from the crate that they test.
 #![tactic(auto)]
 
-#[cfg(test)]
-mod clauses;
-#[cfg(test)]
-mod meaning;
 #[cfg(test)]
 mod terms;

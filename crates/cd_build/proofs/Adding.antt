@@ -3,12 +3,12 @@ use Rattle.std.proofs.Common.{◌≡◌, ℕ, ◌-◌, false, List, [], ◌∷�
 use Rattle.std.proofs.lemmas.List.{length-append}
 use Rattle.cd_clause.specs.declared.Clause.{Clause}
 use Rattle.cd_steps.specs.declared.Step.{Step}
-use Rattle.cd_steps.proofs.Unique.{steps_give_one}
+use Rattle.cd_steps.proofs.Registries.{right_steps_give_one}
 use Rattle.cd_read.specs.declared.problem.Problem.{Problem}
 use Rattle.cd_text.specs.declared.line.Line.{Line}
 use Rattle.cd_ledger.specs.declared.Known.{Known}
 use Rattle.cd_list.proofs.Lists.{get_at}
-use Rattle.cd_build.specs.Marks.{line_clause, first_premise, second_premise, EachGives, line_by, last_clause, clause_before, IsAdded, AreAdded}
+use Rattle.cd_build.specs.Marks.{line_clause, places_of, EachGives, line_by, last_clause, clause_before, IsAdded, AreAdded}
 
 -- where the lines of the other steps join, those of all have joined
 pub record IsJoining (p : Problem) (known : List Known) (numbers : List ℕ) (steps : List Step) (start : List Line) (current : Option Clause) (rest : List Step) (lines : List Line) : Type 0 where
@@ -26,7 +26,7 @@ joining_more p known numbers steps start current s ss lines new joining added =
     let c = added.0 in
     let g = joining.gives in
     let line = line_by p numbers (length lines) c s in
-    let same : g.0 ≡ c = steps_give_one s current (first_premise p known s) (second_premise known s) g.0 c g.1 added.1 in
+    let same : g.0 ≡ c = right_steps_give_one (places_of p known current) s g.0 c g.1 added.1 in
     let last : Some c ≡ last_clause new = sym (ap last_clause added.2 ∙ last_pushed lines line) in
     let moved : IsJoining p known numbers steps start (Some c) ss new = record {
       gives = subst (λ (d : Clause). EachGives p known (Some d) ss) same g.2;

@@ -10,12 +10,13 @@ use Rattle.cd_names.proofs.NameLemmas.{same_name, same_parts, other_name, equal_
 use Rattle.cd_clause.specs.declared.Clause.{Clause}
 use Rattle.cd_names.specs.declared.names.Name.{Name}
 use Rattle.cd_steps.specs.declared.Step.{Step}
-use Rattle.cd_steps.specs.declared.Step.TheVariants.{Input, Resolve, Tidy}
 use Rattle.cd_read.specs.declared.problem.Problem.{Problem}
 use Rattle.cd_ledger.specs.declared.Record.{Record}
-use Rattle.cd_ledger.specs.Names.{names_in, cites_of}
+use Rattle.cd_steps.specs.Premises.{names_in}
+use Rattle.cd_ledger.specs.Names.{cites_of}
 use Rattle.cd_names.specs.Names.{name_eq, add_once, each_once}
-use Rattle.cd_list.proofs.Lists.{all_append}
+use Rattle.cd_list.proofs.Lists.{all_append, all_weaker}
+use Rattle.cd_laws.proofs.Named.{step_names}
 use Rattle.cd_laws.specs.Right.{IsNamed, AreStepsRight, IsRecordRight, AreRecordsRight}
 use Rattle.cd_build.specs.Derivation.{Chosen, is_wanted, choose}
 use Rattle.cd_build.specs.Marks.{IsPlace}
@@ -87,10 +88,10 @@ named_placed me before n r is = record { peer = is.peer; earlier = slice_get_wit
 
 names_placed : (p : Problem) (me : ℕ) (before : List Record) (current : Option Clause) (ss : List Step) (c : Clause) → AreStepsRight p me before current ss c → AllByRecursion (IsPlace me (length before)) (flat_map names_in ss)
 names_placed p me before current [] c ok = tt
-names_placed p me before current (Input k ∷ ss) c ok = names_placed p me before (Some ok.0) ss c ok.2
-names_placed p me before current (Resolve pos i neg j subst ∷ ss) c ok =
-    (named_placed me before pos ok.1.0 ok.1.2, (named_placed me before neg ok.1.1 ok.1.3, names_placed p me before (Some ok.0) ss c ok.2))
-names_placed p me before current (Tidy ∷ ss) c ok = names_placed p me before (Some ok.0) ss c ok.2
+names_placed p me before current (s ∷ ss) c ok =
+    all_append (IsPlace me (length before)) (names_in s) (flat_map names_in ss)
+    (all_weaker (λ n. (a : Record) × IsNamed me before n a) (IsPlace me (length before)) (names_in s) (λ n found. named_placed me before n found.0 found.1) (step_names p me before current s ok.0 ok.1))
+    (names_placed p me before (Some ok.0) ss c ok.2)
 
 steps_placed : (p : Problem) (me : ℕ) (before : List Record) (ss : List Step) (c : Clause) → AreStepsRight p me before None ss c → AllByRecursion (IsPlace me (length before)) (cites_of ss)
 steps_placed p me before ss c ok = once_each (IsPlace me (length before)) [] (flat_map names_in ss) tt (names_placed p me before None ss c ok)

@@ -13,7 +13,7 @@ use Rattle.cd_ledger.specs.declared.Known.{Known}
 use Rattle.cd_ledger.specs.declared.Local.{Local}
 use Rattle.cd_ledger.specs.declared.Record.{Record}
 use Rattle.cd_ledger.specs.declared.Verdict.TheVariants.{Refuted}
-use Rattle.cd_ledger.specs.Names.{names_in}
+use Rattle.cd_steps.specs.Premises.{names_in}
 use Rattle.cd_names.specs.Names.{name_eq}
 use Rattle.cd_list.proofs.Lists.{all_append}
 use Rattle.cd_laws.specs.Right.{record_of, IsRecordRight, AreRecordsRight, IsRight}

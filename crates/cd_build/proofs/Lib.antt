@@ -1,3 +1,4 @@
+pub mod Standing
 pub mod Choosing
 pub mod Tracing
 pub mod Adding

@@ -1,22 +1,27 @@
 -- The numbers of lines, and that each line is right behind the earlier ones.
-use Rattle.std.proofs.Common.{◌≡◌, ℕ, suc, ◌+◌, ◌<◌, ◌≤◌, ◌==◌, Bool, true, false, cond, List, [], ◌∷◌, ◌++◌, length, map, Option, None, Some, refl, sym, ap, ◌∙◌, subst, arith, append_assoc, append-nil}
+use Rattle.std.proofs.Common.{◌≡◌, ℕ, suc, ◌+◌, ◌<◌, ◌≤◌, ◌==◌, Bool, true, false, cond, List, [], ◌∷◌, ◌++◌, length, map, Option, None, Some, refl, sym, ap, ap₂, ◌∙◌, subst, arith, append_assoc, append-nil, slice_get}
 use Rattle.std.specs.List.{AllByRecursion, find, flat_map}
 use Rattle.std.proofs.lemmas.List.{length-append}
 use Rattle.cd_list.proofs.Numbers.{equal_itself, other_number}
 use Rattle.cd_clause.specs.declared.Clause.{Clause}
 use Rattle.cd_names.specs.declared.names.Name.{Name}
 use Rattle.cd_steps.specs.declared.Step.{Step}
-use Rattle.cd_steps.specs.declared.Step.TheVariants.{Input, Resolve, Tidy}
+use Rattle.cd_steps.specs.declared.Step.TheVariants.{Input, Copy, Resolve, Factor, Refl, EqFac, Para, Rewrite, Tidy}
+use Rattle.cd_steps.specs.declared.Premise.{Premise}
+use Rattle.cd_steps.specs.declared.Premise.TheVariants.{Named}
 use Rattle.cd_read.specs.declared.problem.Problem.{Problem}
 use Rattle.cd_read.specs.declared.problem.Input.{Input as ProblemInput}
 use Rattle.cd_text.specs.declared.line.Line.{Line}
 use Rattle.cd_ledger.specs.declared.Record.{Record}
-use Rattle.cd_ledger.specs.Names.{names_in}
+use Rattle.cd_steps.specs.Premises.{premises, names_in}
+use Rattle.cd_steps.proofs.Registries.{agree}
 use Rattle.cd_names.specs.Names.{name_eq}
 use Rattle.cd_list.proofs.Lists.{all_append, all_weaker, all_left, all_right}
-use Rattle.cd_laws.specs.Right.{IsNamed, IsStepRight}
-use Rattle.cd_check.specs.Accepted.{clause_at, IsSourceOk, IsLineOk, AreLinesOk}
-use Rattle.cd_build.specs.Derivation.{Traced, entry_of, number_of, input_role, input_source, role_of, source_of, lines_of_steps, lines_from}
+use Rattle.cd_laws.specs.Premises.{input_clause, registry_of}
+use Rattle.cd_laws.proofs.Named.{has_record}
+use Rattle.cd_laws.specs.Right.{IsNamed, named_clause, IsStepRight}
+use Rattle.cd_check.specs.Accepted.{clause_at, IsInferred, IsSourceOk, IsLineOk, AreLinesOk}
+use Rattle.cd_build.specs.Derivation.{Traced, entry_of, number_of, input_role, input_source, parent_of, role_of, source_of, lines_of_steps, lines_from}
 use Rattle.cd_build.proofs.Tracing.{AreSteps}
 
 -- ---- how many steps
@@ -109,7 +114,7 @@ behind_steps p me before records current [] cs c lines k ok behind =
     subst (λ (l : List Line). IsBehind l (k + 0) (Some c)) (sym (append-nil lines)) (subst (λ (m : ℕ). IsBehind lines m (Some c)) plus_zero (subst (IsBehind lines k) ok.1 behind))
 behind_steps p me before records current (s ∷ ss) cs c lines k ok behind =
     let d = ok.0 in
-    let line : Line = record { number = k + 1; role = role_of p s; clause = d; source = source_of p records k s } in
+    let line : Line = record { number = k + 1; role = role_of p s; clause = d; source = source_of p (number_of 0 records) k s } in
     let others = behind_steps p me before records (Some d) ss ok.1 c (lines ++ line ∷ []) (k + 1) ok.3 (behind_more lines k current line refl behind) in
     let e : k + 1 + length ss ≡ k + suc (length ss) = omega arith in
     subst (λ (l : List Clause). IsBehind (lines ++ lines_of_steps p records k (s ∷ ss) l) (k + suc (length ss)) (Some c)) (sym ok.4)
@@ -171,18 +176,53 @@ look_number p me records more k (t ∷ ts) n a all found = by (name_eq t.entry.n
 IsLined : ℕ → List Record → List Record → List Line → Name → Type 0
 IsLined me before records lines n = (a : Record) → IsNamed me before n a → clause_at lines (number_of 0 records n) ≡ Some a.clause
 
+-- the clauses of the premises of a step that changes the clause before it, or stands on names, are those of its parents
+Stands : Problem → ℕ → List Record → (Name → ℕ) → List Line → ℕ → Option Clause → Premise → Type 0
+Stands p me before number lines k current q = (c : Clause) → registry_of p current (named_clause me before) q ≡ Some c → clause_at lines (parent_of number k q) ≡ Some c
+
+at_parents : (lines : List Line) (number : Name → ℕ) (k : ℕ) (qs : List Premise) → map (clause_at lines) (map (parent_of number k) qs) ≡ map (λ q. clause_at lines (parent_of number k q)) qs
+at_parents lines number k [] = refl
+at_parents lines number k (q ∷ qs) = ap (λ (os : List (Option Clause)). clause_at lines (parent_of number k q) ∷ os) (at_parents lines number k qs)
+
+inferred : (p : Problem) (me : ℕ) (before records : List Record) (lines : List Line) (k : ℕ) (current : Option Clause) (s : Step) (c : Clause) → IsStepRight p me before current s c
+    → AllByRecursion (Stands p me before (number_of 0 records) lines k current) (premises s) → IsInferred lines s (map (parent_of (number_of 0 records) k) (premises s)) c
+unfolding Stands
+inferred p me before records lines k current s c ok all = record {
+  clauses = ok.over.clauses;
+  are = at_parents lines (number_of 0 records) k (premises s)
+      ∙ agree (registry_of p current (named_clause me before)) (λ q. clause_at lines (parent_of (number_of 0 records) k q)) (premises s) ok.over.clauses all ok.over.are;
+  right = ok.over.right;
+}
+
+name_stands : (p : Problem) (me : ℕ) (before records : List Record) (lines : List Line) (k : ℕ) (current : Option Clause) (n : Name) → IsLined me before records lines n → Stands p me before (number_of 0 records) lines k current (Named n)
+unfolding IsLined Stands
+name_stands p me before records lines k current n lined c is =
+    let found = has_record me before n c is in
+    lined found.entry found.named ∙ ap (λ (d : Clause). Some d) found.clause
+
+pub one_clause : (o : Option ProblemInput) (cs : List Clause) (c : Clause) → input_clause o ∷ [] ≡ map Some cs → slice_get cs 0 ≡ Some c → (i : ProblemInput) × (o ≡ Some i) × (i.clause ≡ c)
+one_clause None [] c are first = absurd cc
+one_clause None (d ∷ cs) c are first = absurd cc
+one_clause (Some i) [] c are first = absurd cc
+one_clause (Some i) (d ∷ cs) c are first = let same : i.clause ≡ c = cc (are, first) in (i, refl, same)
+
 step_source : (p : Problem) (me : ℕ) (before records : List Record) (lines : List Line) (k : ℕ) (current : Option Clause) (s : Step) (c : Clause) → IsStepRight p me before current s c → AllByRecursion (IsLined me before records lines) (names_in s)
-    → IsBehind lines k current → IsSourceOk p lines (record { number = k + 1; role = role_of p s; clause = c; source = source_of p records k s }) (source_of p records k s)
-unfolding IsLined
+    → IsBehind lines k current → IsSourceOk p lines (record { number = k + 1; role = role_of p s; clause = c; source = source_of p (number_of 0 records) k s }) (source_of p (number_of 0 records) k s)
+unfolding IsLined Stands
 step_source p me before records lines k current (Input index) c ok lined behind =
-    let i : ProblemInput = ok.0 in
-    let clause : i.clause ≡ c = cc in
-    subst (λ (o : Option ProblemInput). IsSourceOk p lines (record { number = k + 1; role = input_role o; clause = c; source = input_source o }) (input_source o)) (sym ok.1)
-    (record { place = index; input = i; there = ok.1; role = refl; path_is = refl; label_is = refl; clause_is = clause })
+    let i = one_clause (slice_get p.inputs index) ok.over.clauses c ok.over.are ok.over.right.1 in
+    subst (λ (o : Option ProblemInput). IsSourceOk p lines (record { number = k + 1; role = input_role o; clause = c; source = input_source o }) (input_source o)) (sym i.1)
+    (record { place = index; input = i.0; there = i.1; role = refl; path_is = refl; label_is = refl; clause_is = i.2 })
+step_source p me before records lines k current (Copy of) c ok lined behind = absurd ok.thin
 step_source p me before records lines k current (Resolve pos i neg j terms) c ok lined behind =
-    (number_of 0 records pos, number_of 0 records neg, ok.0.clause, ok.1.clause, refl, lined.0 ok.0 ok.2, lined.1.0 ok.1 ok.3, ok.4)
-step_source p me before records lines k None Tidy c ok lined behind = absurd ok
-step_source p me before records lines k (Some x) Tidy c ok lined behind = (k, x, refl, behind.last x refl, ok)
+    inferred p me before records lines k current (Resolve pos i neg j terms) c ok
+    (name_stands p me before records lines k current pos lined.0, (name_stands p me before records lines k current neg lined.1.0, tt))
+step_source p me before records lines k current (Factor of i j terms) c ok lined behind = absurd ok.thin
+step_source p me before records lines k current (Refl of i terms) c ok lined behind = absurd ok.thin
+step_source p me before records lines k current (EqFac of i x j z terms) c ok lined behind = absurd ok.thin
+step_source p me before records lines k current (Para giver i x taker j at terms) c ok lined behind = absurd ok.thin
+step_source p me before records lines k current (Rewrite by x j at terms) c ok lined behind = absurd ok.thin
+step_source p me before records lines k current Tidy c ok lined behind = inferred p me before records lines k current Tidy c ok (behind.last, tt)
 
 steps_right : (p : Problem) (me : ℕ) (before records : List Record) (current : Option Clause) (ss : List Step) (cs : List Clause) (c : Clause) (lines : List Line) (k : ℕ) (rest : List Line) → AreSteps p me before current ss cs c
     → AllByRecursion (IsLined me before records lines) (flat_map names_in ss) → IsBehind lines k current → length lines ≡ k → AreLinesOk p (lines ++ lines_of_steps p records k ss cs) rest → AreLinesOk p lines (lines_of_steps p records k ss cs ++ rest)
@@ -190,7 +230,7 @@ unfolding IsLined
 steps_right p me before records current [] cs c lines k rest ok lined behind size later = subst (λ (l : List Line). AreLinesOk p l rest) (append-nil lines) later
 steps_right p me before records current (s ∷ ss) cs c lines k rest ok lined behind size later =
     let d = ok.0 in
-    let line : Line = record { number = k + 1; role = role_of p s; clause = d; source = source_of p records k s } in
+    let line : Line = record { number = k + 1; role = role_of p s; clause = d; source = source_of p (number_of 0 records) k s } in
     let others = lines_of_steps p records (k + 1) ss ok.1 in
     let here_lined = all_left (IsLined me before records lines) (names_in s) (flat_map names_in ss) lined in
     let rest_lined = all_right (IsLined me before records lines) (names_in s) (flat_map names_in ss) lined in

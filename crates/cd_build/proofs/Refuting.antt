@@ -1,25 +1,28 @@
 -- The lines of a peer that recorded the empty clause are a refutation.
-use Rattle.std.proofs.Common.{◌≡◌, ℕ, suc, ◌+◌, ◌*◌, ◌^◌, ◌<◌, ◌≤◌, Bool, true, false, ◌||◌, inl, inr, cond, List, [], ◌∷◌, ◌++◌, length, map, remove, Option, Some, None, refl, sym, ap, ◌∙◌, subst, arith, append_assoc, append-nil}
+use Rattle.std.proofs.Common.{◌≡◌, ℕ, suc, ◌+◌, ◌*◌, ◌^◌, ◌<◌, ◌≤◌, Bool, true, false, ◌||◌, inl, inr, cond, List, [], ◌∷◌, ◌++◌, length, map, remove, slice_get, Option, Some, None, refl, sym, ap, ◌∙◌, subst, arith, append_assoc, append-nil}
 use Rattle.std.specs.List.{AllByRecursion, filter, find, flat_map}
 use Rattle.std.proofs.lemmas.List.{length-append}
 use Rattle.std.proofs.lemmas.List.Elements.{filter-append}
 use Rattle.cd_laws.proofs.RightLemmas.{records_push}
 use Rattle.cd_names.proofs.NameLemmas.{same_name}
 use Rattle.cd_term.specs.declared.Term.{Term}
-use Rattle.cd_term.specs.Terms.{substituted, order_of, ranked}
+use Rattle.cd_term.specs.Terms.{substituted, order_of, ranked, bound_of, greatest}
 use Rattle.cd_clause.specs.declared.Atom.{Atom}
 use Rattle.cd_clause.specs.declared.Atom.TheVariants.{Truth, Pred, Equal}
 use Rattle.cd_clause.specs.declared.Clause.{Clause}
 use Rattle.cd_clause.specs.declared.Literal.{Literal}
-use Rattle.cd_clause.specs.Clauses.{clause_terms, terms_of, AreKept, IsTidied}
+use Rattle.cd_clause.specs.Clauses.{clause_terms, terms_of, variable_bound_of, AreKept, IsTidied}
 use Rattle.cd_names.specs.declared.names.Name.{Name}
 use Rattle.cd_steps.specs.declared.Step.{Step}
-use Rattle.cd_steps.specs.declared.Step.TheVariants.{Input, Resolve, Tidy}
+use Rattle.cd_steps.specs.declared.Step.TheVariants.{Input, Copy, Resolve, Factor, Refl, EqFac, Para, Rewrite, Tidy}
+use Rattle.cd_steps.specs.Rules.{Inference, IsResolution, FollowsBy}
+use Rattle.cd_steps.specs.Steps.{OfOne, OfTwo}
 use Rattle.cd_symbols.specs.Symbol.{Symbol}
 use Rattle.cd_read.specs.declared.problem.Problem.{Problem}
 use Rattle.cd_read.specs.declared.problem.Input.{Input as ProblemInput}
 use Rattle.cd_read.specs.Problems.{AtomFormed, ClauseFormed, IsFormed}
 use Rattle.cd_text.specs.declared.line.Line.{Line}
+use Rattle.cd_text.specs.Texts.{rule_text}
 use Rattle.cd_text.specs.Feeds.{TermsFit, ClauseFits, LineFits}
 use Rattle.cd_ledger.specs.declared.Known.{Known}
 use Rattle.cd_ledger.specs.declared.Local.{Local}
@@ -28,19 +31,22 @@ use Rattle.cd_ledger.specs.declared.Verdict.{Verdict}
 use Rattle.cd_ledger.specs.declared.Verdict.TheVariants.{Refuted}
 use Rattle.cd_ledger.specs.Lean.{IsUsable}
 use Rattle.cd_ledger.specs.Machine.{is_empty, no_literals}
-use Rattle.cd_ledger.specs.Names.{names_in}
+use Rattle.cd_steps.specs.Premises.{names_in}
 use Rattle.cd_names.specs.Names.{name_eq}
 use Rattle.cd_ledger.specs.World.{has_empty}
 use Rattle.cd_ledger.proofs.LeanLemmas.{lean_short}
 use Rattle.cd_list.proofs.Lists.{all_append, all_remove, all_get, length_remove, all_weaker}
 use Rattle.cd_ledger.proofs.TidyItems.{kept_all, HasNoTerms, HaveNoTerms, fixed}
-use Rattle.cd_laws.specs.Right.{record_of, records_of, IsNamed, IsStepRight, AreStepsRight, IsRecordRight, AreRecordsRight, EndsRight, IsRight}
+use Rattle.cd_ledger.proofs.Resolvents.{apart_plain, resolvent_plain}
+use Rattle.cd_laws.proofs.FormedLemmas.{formed_plain}
+use Rattle.cd_laws.proofs.Named.{has_record}
+use Rattle.cd_laws.specs.Right.{record_of, records_of, IsNamed, named_clause, IsStepRight, AreStepsRight, IsRecordRight, AreRecordsRight, EndsRight, IsRight}
 use Rattle.cd_check.specs.Accepted.{IsLineFormed, EndsEmpty, IsRefutation}
-use Rattle.cd_build.specs.Derivation.{Traced, entry_of, IsTraced, is_wanted, choose, up_to_empty, last_names, ancestors, input_role, input_source, role_of, source_of, lines_of_steps, lines_from}
+use Rattle.cd_build.specs.Derivation.{Traced, entry_of, IsTraced, number_of, is_wanted, choose, up_to_empty, last_names, ancestors, input_role, input_source, role_of, source_of, lines_of_steps, lines_from}
 use Rattle.cd_build.specs.Refuting.{IsPrintable, DerivationsRefute}
 use Rattle.cd_build.proofs.Choosing.{wanted_in, chosen_kept, wanted_more, closed, find_named, find_kept, all_cited}
 use Rattle.cd_build.proofs.Tracing.{AreSteps, StandBefore, given_steps}
-use Rattle.cd_build.proofs.Numbering.{total, AreLinked, lines_right, number_small}
+use Rattle.cd_build.proofs.Numbering.{total, AreLinked, lines_right, number_small, one_clause}
 
 -- ---- clauses that can stand in a line
 
@@ -56,15 +62,6 @@ pub record IsSound (p : Problem) (r : Record) : Type 0 where
 
 sound_short : (p : Problem) (r : Record) → IsSound p r → length r.clause.literals ≤ 32768
 sound_short p r sound = lean_short r.clause sound.usable.propositional sound.usable.lean
-
--- a formed atom has no terms
-has_no_terms : (symbols : List Symbol) (a : Atom) → AtomFormed symbols a → HasNoTerms a
-has_no_terms symbols Truth is = absurd is
-has_no_terms symbols (Pred n args) is = is.4
-has_no_terms symbols (Equal s t) is = absurd is
-
-have_no_terms : (symbols : List Symbol) (ls : List Literal) → AllByRecursion (λ l. AtomFormed symbols l.atom) ls → HaveNoTerms ls
-have_no_terms symbols ls all = all_weaker (λ l. AtomFormed symbols l.atom) (λ l. HasNoTerms l.atom) ls (λ l. has_no_terms symbols l.atom) all
 
 no_terms : (ls : List Literal) → HaveNoTerms ls → clause_terms ls ≡ []
 no_terms [] none = refl
@@ -88,40 +85,107 @@ tidied_fit p c d t fit =
     let P = λ (l : Literal). AtomFormed p.symbols l.atom in
     let kept = t.0 in
     let all : AllByRecursion P kept = kept_all P [] c.literals kept t.1 fit.formed in
-    let same : d.literals ≡ kept = t.2 ∙ fixed (substituted (ranked (order_of (clause_terms kept)))) kept (have_no_terms p.symbols kept all) in
+    let same : d.literals ≡ kept = t.2 ∙ fixed (substituted (ranked (order_of (clause_terms kept)))) kept (formed_plain p.symbols kept all) in
     record { formed = subst (AllByRecursion P) (sym same) all; short = omega (arith, ap length same, kept_few [] c.literals kept t.1, fit.short) }
+
+no_clause : (cs : List Clause) → None ∷ [] ≡ map Some cs → ⊥
+no_clause [] are = cc
+no_clause (c ∷ cs) are = cc
+
+tidied_from : (x : Clause) (cs : List Clause) (c : Clause) → Some x ∷ [] ≡ map Some cs → OfOne (slice_get cs 0) (λ b. IsTidied b c) → IsTidied x c
+tidied_from x [] c are tidied = absurd tidied
+tidied_from x (b ∷ cs) c are tidied = let same : b ≡ x = cc in subst (λ (y : Clause). IsTidied y c) same tidied
+
+sound_named : (p : Problem) (me : ℕ) (before : List Record) (n : Name) (c : Clause) → AllByRecursion (IsSound p) before → named_clause me before n ≡ Some c → (r : Record) × IsSound p r × (r.clause ≡ c)
+sound_named p me before n c sound is =
+    let found = has_record me before n c is in
+    (found.entry, all_get (IsSound p) before n.seq found.entry sound found.named.there, found.clause)
+
+-- what a right resolution over sound records is of
+record IsResolved (p : Problem) (i j : ℕ) (terms : List Term) (c : Clause) : Type 0 where
+  left : Clause
+  right : Clause
+  formed_left : ClauseFormed p.symbols left
+  formed_right : ClauseFormed p.symbols right
+  short_left : length left.literals ≤ 32768
+  short_right : length right.literals ≤ 32768
+  follows : FollowsBy (IsResolution left i right j) terms c
+
+resolved_of : (p : Problem) (me : ℕ) (before : List Record) (pos neg : Name) (cs : List Clause) (i j : ℕ) (terms : List Term) (c : Clause) → AllByRecursion (IsSound p) before
+    → named_clause me before pos ∷ named_clause me before neg ∷ [] ≡ map Some cs → OfTwo (slice_get cs 0) (slice_get cs 1) (λ a b. FollowsBy (IsResolution a i b j) terms c) → IsResolved p i j terms c
+resolved_of p me before pos neg [] i j terms c sound are follows = absurd follows
+resolved_of p me before pos neg (a ∷ []) i j terms c sound are follows = absurd follows
+resolved_of p me before pos neg (a ∷ b ∷ cs) i j terms c sound are follows =
+    let at_pos : named_clause me before pos ≡ Some a = cc in
+    let at_neg : named_clause me before neg ≡ Some b = cc in
+    let x = sound_named p me before pos a sound at_pos in
+    let y = sound_named p me before neg b sound at_neg in
+    record {
+      left = a;
+      right = b;
+      formed_left = subst (ClauseFormed p.symbols) x.2 x.1.formed;
+      formed_right = subst (ClauseFormed p.symbols) y.2 y.1.formed;
+      short_left = subst (λ (d : Clause). length d.literals ≤ 32768) x.2 (sound_short p x.0 x.1);
+      short_right = subst (λ (d : Clause). length d.literals ≤ 32768) y.2 (sound_short p y.0 y.1);
+      follows = follows;
+    }
+
+-- a resolvent of formed clauses, of which each has at most half the literals of a line
+resolved_fit : (p : Problem) (i j : ℕ) (terms : List Term) (c : Clause) → IsResolved p i j terms c → IsFit p c
+resolved_fit p i j terms c is =
+    let a = is.left in
+    let b = is.right in
+    let formed_a = is.formed_left in
+    let formed_b = is.formed_right in
+    let few : length a.literals ≤ 32768 = is.short_left in
+    let many : length b.literals ≤ 32768 = is.short_right in
+    let follows = is.follows in
+    let P = λ (l : Literal). AtomFormed p.symbols l.atom in
+    let none_a = formed_plain p.symbols a.literals formed_a in
+    let none_b = formed_plain p.symbols b.literals formed_b in
+    let first = remove a.literals i in
+    let second = remove b.literals j in
+    let rest = resolvent_plain a b c i j terms none_a none_b follows in
+    let one = length_remove a.literals i _ follows.1.positive in
+    let other = length_remove b.literals j _ (ap (λ (ls : List Literal). slice_get ls j) (sym (apart_plain a b none_b)) ∙ follows.1.negative) in
+    let size : length c.literals ≡ length (first ++ second) = ap length rest in
+    record {
+      formed = subst (AllByRecursion P) (sym rest) (all_append P first second (all_remove P a.literals i formed_a) (all_remove P b.literals j formed_b));
+      short = omega (arith, size, length-append first second, one, other, few, many);
+    }
+
+-- clauses without terms have no variables, so the substitution is empty
+bound_zero : (symbols : List Symbol) (c : Clause) → ClauseFormed symbols c → variable_bound_of c ≡ 0
+bound_zero symbols c formed = ap (λ (ts : List Term). greatest (map bound_of ts)) (no_terms c.literals (formed_plain symbols c.literals formed))
+
+none_there : (ts : List Term) → length ts ≡ 0 → ts ≡ []
+none_there [] none = refl
+none_there (t ∷ ts) none = absurd (omega arith)
+
+no_values : (p : Problem) (i j : ℕ) (terms : List Term) (c : Clause) → IsResolved p i j terms c → terms ≡ []
+no_values p i j terms c is =
+    let covers = is.follows.2.covers ∙ ap (λ (x : Inference). x.variables) is.follows.1.is in
+    none_there terms (omega (arith, covers, bound_zero p.symbols is.left is.formed_left, bound_zero p.symbols is.right is.formed_right))
 
 -- a right step over sound records gives such a clause, behind one
 step_fit : (p : Problem) (me : ℕ) (before : List Record) (current : Option Clause) (s : Step) (c : Clause) → IsFormed p → AllByRecursion (IsSound p) before → ((x : Clause) → current ≡ Some x → IsFit p x)
     → IsStepRight p me before current s c → IsFit p c
 step_fit p me before current (Input index) c inputs sound fit ok =
-    let e : ok.0.clause ≡ c = let h = ok.2 in cc in
-    subst (IsFit p) e (record {
-      formed = all_get (λ (i : ProblemInput). ClauseFormed p.symbols i.clause) p.inputs index ok.0 inputs.clauses ok.1;
-      short = all_get (λ (i : ProblemInput). length i.clause.literals ≤ 65535) p.inputs index ok.0 inputs.short ok.1;
+    let i = one_clause (slice_get p.inputs index) ok.over.clauses c ok.over.are ok.over.right.1 in
+    subst (IsFit p) i.2 (record {
+      formed = all_get (λ (x : ProblemInput). ClauseFormed p.symbols x.clause) p.inputs index i.0 inputs.clauses i.1;
+      short = all_get (λ (x : ProblemInput). length x.clause.literals ≤ 65535) p.inputs index i.0 inputs.short i.1;
     })
+step_fit p me before current (Copy of) c inputs sound fit ok = absurd ok.thin
 step_fit p me before current (Resolve pos i neg j terms) c inputs sound fit ok =
-    let both = ok.4 in
-    let left : both.left ≡ ok.0.clause = let h = both.has_left in cc in
-    let right : both.right ≡ ok.1.clause = let h = both.has_right in cc in
-    let P = λ (l : Literal). AtomFormed p.symbols l.atom in
-    let a = all_get (IsSound p) before pos.seq ok.0 sound ok.2.there in
-    let b = all_get (IsSound p) before neg.seq ok.1 sound ok.3.there in
-    let formed_left : ClauseFormed p.symbols both.left = subst (ClauseFormed p.symbols) (sym left) a.formed in
-    let formed_right : ClauseFormed p.symbols both.right = subst (ClauseFormed p.symbols) (sym right) b.formed in
-    let first = remove both.left.literals i in
-    let second = remove both.right.literals j in
-    let one = length_remove both.left.literals i (record { positive = true; atom = both.resolves.complementary.atom }) both.resolves.complementary.positive in
-    let other = length_remove both.right.literals j (record { positive = false; atom = both.resolves.complementary.atom }) both.resolves.complementary.negative in
-    let few : length both.left.literals ≤ 32768 = omega (arith, ap (λ (x : Clause). length x.literals) left, sound_short p ok.0 a) in
-    let many : length both.right.literals ≤ 32768 = omega (arith, ap (λ (x : Clause). length x.literals) right, sound_short p ok.1 b) in
-    let size : length c.literals ≡ length (first ++ second) = ap length both.resolves.rest in
-    record {
-      formed = subst (AllByRecursion P) (sym both.resolves.rest) (all_append P first second (all_remove P both.left.literals i formed_left) (all_remove P both.right.literals j formed_right));
-      short = omega (arith, size, length-append first second, one, other, few, many);
-    }
-step_fit p me before None Tidy c inputs sound fit ok = absurd ok
-step_fit p me before (Some x) Tidy c inputs sound fit ok = tidied_fit p x c ok (fit x refl)
+    resolved_fit p i j terms c (resolved_of p me before pos neg ok.over.clauses i j terms c sound ok.over.are ok.over.right.1)
+step_fit p me before current (Factor of i j terms) c inputs sound fit ok = absurd ok.thin
+step_fit p me before current (Refl of i terms) c inputs sound fit ok = absurd ok.thin
+step_fit p me before current (EqFac of i x j z terms) c inputs sound fit ok = absurd ok.thin
+step_fit p me before current (Para giver i x taker j at terms) c inputs sound fit ok = absurd ok.thin
+step_fit p me before current (Rewrite by x j at terms) c inputs sound fit ok = absurd ok.thin
+step_fit p me before None Tidy c inputs sound fit ok = absurd (no_clause ok.over.clauses ok.over.are)
+step_fit p me before (Some x) Tidy c inputs sound fit ok = tidied_fit p x c (tidied_from x ok.over.clauses c ok.over.are ok.over.right.1) (fit x refl)
 
 -- the clause that right steps lead to
 steps_fit : (p : Problem) (me : ℕ) (before : List Record) (current : Option Clause) (ss : List Step) (c : Clause) → IsFormed p → AllByRecursion (IsSound p) before → ((x : Clause) → current ≡ Some x → IsFit p x)
@@ -143,30 +207,43 @@ records_sound p me before (r ∷ rs) inputs all usable right =
 abbrev IsGoodLine : Problem → Line → Type 0
 IsGoodLine p l = IsLineFormed p.symbols l × LineFits l
 
-none_there : (ts : List Term) → length ts ≡ 0 → ts ≡ []
-none_there [] none = refl
-none_there (t ∷ ts) none = absurd (omega arith)
-
 clause_fits : (p : Problem) (c : Clause) → IsFit p c → ClauseFits c
-clause_fits p c fit = subst TermsFit (sym (no_terms c.literals (have_no_terms p.symbols c.literals fit.formed))) tt
+clause_fits p c fit = subst TermsFit (sym (no_terms c.literals (formed_plain p.symbols c.literals fit.formed))) tt
 
-step_line : (p : Problem) (me : ℕ) (before records : List Record) (current : Option Clause) (k : ℕ) (s : Step) (c : Clause) → IsStepRight p me before current s c → IsFit p c → k < 2 ^ 34 → total records < 2 ^ 34
-    → IsGoodLine p (record { number = k + 1; role = role_of p s; clause = c; source = source_of p records k s })
-step_line p me before records current k (Input index) c ok fit few small =
-    subst (λ (o : Option ProblemInput). IsGoodLine p (record { number = k + 1; role = input_role o; clause = c; source = input_source o })) (sym ok.1)
-    (record { number = omega arith; clause = fit.formed; short = fit.short; source = (ok.0, refl) }, record { number = omega arith; clause = clause_fits p c fit; source = tt })
-step_line p me before records current k (Resolve pos i neg j terms) c ok fit few small =
+step_line : (p : Problem) (me : ℕ) (before records : List Record) (current : Option Clause) (k : ℕ) (s : Step) (c : Clause) → AllByRecursion (IsSound p) before → IsStepRight p me before current s c → IsFit p c → k < 2 ^ 34 → total records < 2 ^ 34
+    → IsGoodLine p (record { number = k + 1; role = role_of p s; clause = c; source = source_of p (number_of 0 records) k s })
+unfolding rule_text
+step_line p me before records current k (Input index) c sound ok fit few small =
+    let i = one_clause (slice_get p.inputs index) ok.over.clauses c ok.over.are ok.over.right.1 in
+    subst (λ (o : Option ProblemInput). IsGoodLine p (record { number = k + 1; role = input_role o; clause = c; source = input_source o })) (sym i.1)
+    (record { number = omega arith; clause = fit.formed; short = fit.short; source = (i.0, refl) }, record { number = omega arith; clause = clause_fits p c fit; source = tt })
+step_line p me before records current k (Copy of) c sound ok fit few small = absurd ok.thin
+step_line p me before records current k (Resolve pos i neg j terms) c sound ok fit few small =
     let first = number_small 0 records pos in
     let second = number_small 0 records neg in
-    let at_i : i < 65536 = ok.5 in
-    let at_j : j < 65536 = ok.6 in
-    let none : terms ≡ [] = none_there terms ok.4.resolves.covers in (
-      record { number = omega arith; clause = fit.formed; short = fit.short; source = (refl, at_i, at_j, none, refl) },
-      record { number = omega arith; clause = clause_fits p c fit; source = ((omega arith, omega arith, subst TermsFit (sym none) tt), (omega arith, (omega arith, tt))) },
+    let at_i : i < 65536 = ok.places.0 in
+    let at_j : j < 65536 = ok.places.1.0 in
+    let none : terms ≡ [] = no_values p i j terms c (resolved_of p me before pos neg ok.over.clauses i j terms c sound ok.over.are ok.over.right.1) in (
+      record {
+        number = omega arith;
+        clause = fit.formed;
+        short = fit.short;
+        source = (refl, record { rule = λ e. absurd cc; numbers = ok.places; subst = none; parents_are = refl });
+      },
+      record {
+        number = omega arith;
+        clause = clause_fits p c fit;
+        source = (((omega arith, (omega arith, tt)), subst TermsFit (sym none) tt), (omega arith, (omega arith, tt)));
+      },
     )
-step_line p me before records current k Tidy c ok fit few small = (
-  record { number = omega arith; clause = fit.formed; short = fit.short; source = (refl, refl) },
-  record { number = omega arith; clause = clause_fits p c fit; source = (tt, (omega arith, tt)) },
+step_line p me before records current k (Factor of i j terms) c sound ok fit few small = absurd ok.thin
+step_line p me before records current k (Refl of i terms) c sound ok fit few small = absurd ok.thin
+step_line p me before records current k (EqFac of i x j z terms) c sound ok fit few small = absurd ok.thin
+step_line p me before records current k (Para giver i x taker j at terms) c sound ok fit few small = absurd ok.thin
+step_line p me before records current k (Rewrite by x j at terms) c sound ok fit few small = absurd ok.thin
+step_line p me before records current k Tidy c sound ok fit few small = (
+  record { number = omega arith; clause = fit.formed; short = fit.short; source = (refl, record { rule = λ e. absurd cc; numbers = tt; subst = refl; parents_are = refl }) },
+  record { number = omega arith; clause = clause_fits p c fit; source = ((tt, tt), (omega arith, tt)) },
 )
 
 steps_lines : (p : Problem) (me : ℕ) (before records : List Record) (current : Option Clause) (k : ℕ) (ss : List Step) (cs : List Clause) (c : Clause) → IsFormed p → AllByRecursion (IsSound p) before
@@ -175,7 +252,7 @@ steps_lines p me before records current k [] cs c inputs sound fit ok few small 
 steps_lines p me before records current k (s ∷ ss) cs c inputs sound fit ok few small =
     let here = step_fit p me before current s ok.0 inputs sound fit ok.2 in
     subst (λ (l : List Clause). AllByRecursion (IsGoodLine p) (lines_of_steps p records k (s ∷ ss) l)) (sym ok.4) (
-      step_line p me before records current k s ok.0 ok.2 here (omega arith) small,
+      step_line p me before records current k s ok.0 sound ok.2 here (omega arith) small,
       steps_lines p me before records (Some ok.0) (k + 1) ss ok.1 c inputs sound (λ x is. subst (IsFit p) (cc is) here) ok.3 (omega arith) small,
     )
 
@@ -240,7 +317,7 @@ steps_end : (p : Problem) (me : ℕ) (before records : List Record) (current : O
 steps_end p me before records current [] cs c lines k ok empty ends = subst EndsEmpty (sym (append-nil lines)) (ends ok.1)
 steps_end p me before records current (s ∷ ss) cs c lines k ok empty ends =
     let d = ok.0 in
-    let line : Line = record { number = k + 1; role = role_of p s; clause = d; source = source_of p records k s } in
+    let line : Line = record { number = k + 1; role = role_of p s; clause = d; source = source_of p (number_of 0 records) k s } in
     let others = lines_of_steps p records (k + 1) ss ok.1 in
     let last : Some d ≡ Some c → EndsEmpty (lines ++ line ∷ []) =
     λ (is : Some d ≡ Some c). let e : d ≡ c = cc is in ends_one lines line (ap (λ (x : Clause). x.literals) e ∙ empty) in

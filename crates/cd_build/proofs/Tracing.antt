@@ -1,27 +1,29 @@
 -- The clauses that the steps of a right record give, one after another.
-use Rattle.std.proofs.Common.{◌≡◌, ℕ, zero, suc, ◌+◌, Bool, true, false, cond, List, [], ◌∷◌, ◌++◌, length, map, Option, Some, None, slice_get, get_or, refl, sym, ap, ◌∙◌, subst, arith, append_assoc, append-nil}
+use Rattle.std.proofs.Common.{◌≡◌, ℕ, zero, suc, ◌+◌, Bool, true, false, cond, List, [], ◌∷◌, ◌++◌, length, map, Option, Some, None, slice_get, get_or, refl, sym, ap, ap₂, ◌∙◌, subst, arith, append_assoc, append-nil}
 use Rattle.std.specs.List.{AllByRecursion, find, flat_map}
 use Rattle.std.proofs.lemmas.List.{length-append}
 use Rattle.cd_clause.specs.declared.Clause.{Clause}
 use Rattle.cd_names.specs.declared.names.Name.{Name}
 use Rattle.cd_steps.specs.declared.Step.{Step}
-use Rattle.cd_steps.specs.declared.Step.TheVariants.{Input, Resolve, Tidy}
-use Rattle.cd_steps.specs.Steps.{StepOk}
-use Rattle.cd_steps.proofs.Unique.{steps_give_one}
+use Rattle.cd_steps.specs.declared.Premise.{Premise}
+use Rattle.cd_steps.specs.declared.Premise.TheVariants.{Before, Given, Named}
+use Rattle.cd_steps.specs.Premises.{premises, names_of}
+use Rattle.cd_steps.proofs.Registries.{right_steps_stay_right, right_steps_give_one}
 use Rattle.cd_read.specs.declared.problem.Problem.{Problem}
-use Rattle.cd_read.specs.declared.problem.Input.{Input as ProblemInput}
 use Rattle.cd_text.specs.declared.line.Line.{Line}
 use Rattle.cd_text.specs.declared.line.LineSource.{LineSource}
-use Rattle.cd_text.specs.declared.line.LineSource.TheVariants.{Inference}
 use Rattle.cd_ledger.specs.declared.Known.{Known}
 use Rattle.cd_ledger.specs.declared.Record.{Record}
-use Rattle.cd_ledger.specs.Names.{names_in, look}
+use Rattle.cd_steps.specs.Premises.{names_in}
+use Rattle.cd_ledger.specs.Names.{look}
 use Rattle.cd_names.specs.Names.{name_eq}
 use Rattle.cd_list.proofs.Lists.{get_left, find_left, all_left, all_right}
 use Rattle.cd_laws.specs.Accounts.{IsReplayed}
-use Rattle.cd_laws.specs.Right.{record_of, IsNamed, IsStepRight, AreStepsRight, AreRecordsRight}
-use Rattle.cd_build.specs.Derivation.{AreGiven, number_of, role_of, source_of, lines_of_steps}
-use Rattle.cd_build.specs.Marks.{known_clause, input_clause, first_premise, second_premise, Gives, EachGives, source_by, line_by, AreAdded}
+use Rattle.cd_laws.specs.Premises.{known_clause, registry_of}
+use Rattle.cd_laws.proofs.Named.{agree_named, has_record, step_names}
+use Rattle.cd_laws.specs.Right.{record_of, IsNamed, named_clause, IsStepRight, AreStepsRight, AreRecordsRight}
+use Rattle.cd_build.specs.Derivation.{AreGiven, number_of, parent_of, role_of, source_for, source_of, lines_of_steps}
+use Rattle.cd_build.specs.Marks.{place_clause, places_of, Gives, EachGives, number_by, source_by, line_by, AreAdded}
 use Rattle.cd_build.proofs.Choosing.{find_named}
 
 -- the steps are right one after another, behind the clause before them, give these clauses, and lead to the last one
@@ -62,34 +64,32 @@ named_looked p me known before n a stand named =
 
 -- ---- a right step is right with what is known, and gives its clause from the places
 
+known_under : (p : Problem) (me : ℕ) (known : List Known) (before : List Record) → StandBefore p me known before → (n : Name) (c : Clause) → named_clause me before n ≡ Some c → known_clause (look known n) ≡ Some c
+known_under p me known before stand n c is =
+    let found = has_record me before n c is in
+    let x = named_looked p me known before n found.entry stand found.named in
+    ap known_clause x.look_is ∙ ap (λ (r : Record). Some r.clause) x.entry ∙ ap (λ (d : Clause). Some d) found.clause
+
 replayed : (p : Problem) (me : ℕ) (known : List Known) (before : List Record) (current : Option Clause) (s : Step) (c : Clause) → StandBefore p me known before → IsStepRight p me before current s c → IsReplayed p known current s c
-replayed p me known before current (Input index) c stand ok = ok
-replayed p me known before current (Resolve pos i neg j terms) c stand ok =
-    let x = named_looked p me known before pos ok.0 stand ok.2 in
-    let y = named_looked p me known before neg ok.1 stand ok.3 in (
-      x.found,
-      y.found,
-      x.look_is,
-      y.look_is,
-      subst (λ (r : Record). StepOk (Resolve pos i neg j terms) None (Some r.clause) (Some y.found.entry.clause) c) (sym x.entry)
-          (subst (λ (r : Record). StepOk (Resolve pos i neg j terms) None (Some ok.0.clause) (Some r.clause) c) (sym y.entry) ok.4),
-    )
-replayed p me known before current Tidy c stand ok = ok
+replayed p me known before current s c stand ok =
+    right_steps_stay_right (registry_of p current (named_clause me before)) (registry_of p current (λ n. known_clause (look known n))) s c
+    (agree_named p current (named_clause me before) (λ n. known_clause (look known n)) (premises s) (known_under p me known before stand)) ok.over
 
-place_clause : (known : List Known) (k : ℕ) (a : Record) → slice_get (map record_of known) k ≡ Some a → known_clause (slice_get known k) ≡ Some a.clause
-place_clause [] k a there = absurd cc
-place_clause (x ∷ xs) zero a there = let e : x.entry ≡ a = cc in ap (λ (r : Record). Some r.clause) e
-place_clause (x ∷ xs) (suc k) a there = place_clause xs k a there
+record_clause_at : (known : List Known) (k : ℕ) (a : Record) → slice_get (map record_of known) k ≡ Some a → known_clause (slice_get known k) ≡ Some a.clause
+record_clause_at [] k a there = absurd cc
+record_clause_at (x ∷ xs) zero a there = let e : x.entry ≡ a = cc in ap (λ (r : Record). Some r.clause) e
+record_clause_at (x ∷ xs) (suc k) a there = record_clause_at xs k a there
 
-named_clause : (p : Problem) (me : ℕ) (known : List Known) (before : List Record) (n : Name) (a : Record) → StandBefore p me known before → IsNamed me before n a → known_clause (slice_get known n.seq) ≡ Some a.clause
-named_clause p me known before n a stand named = place_clause known n.seq a (ap (λ (l : List Record). slice_get l n.seq) stand.split ∙ get_left before stand.rest n.seq a named.there)
+in_place : (p : Problem) (me : ℕ) (known : List Known) (before : List Record) → StandBefore p me known before → (n : Name) (c : Clause) → named_clause me before n ≡ Some c → place_clause known n ≡ Some c
+in_place p me known before stand n c is =
+    let found = has_record me before n c is in
+    record_clause_at known n.seq found.entry (ap (λ (l : List Record). slice_get l n.seq) stand.split ∙ get_left before stand.rest n.seq found.entry found.named.there)
+    ∙ ap (λ (d : Clause). Some d) found.clause
 
 gives : (p : Problem) (me : ℕ) (known : List Known) (before : List Record) (current : Option Clause) (s : Step) (c : Clause) → StandBefore p me known before → IsStepRight p me before current s c → Gives p known current s c
-gives p me known before current (Input index) c stand ok = ap input_clause ok.1 ∙ ok.2
-gives p me known before current (Resolve pos i neg j terms) c stand ok =
-    subst (λ (o : Option Clause). StepOk (Resolve pos i neg j terms) current o (known_clause (slice_get known neg.seq)) c) (sym (named_clause p me known before pos ok.0 stand ok.2))
-    (subst (λ (o : Option Clause). StepOk (Resolve pos i neg j terms) current (Some ok.0.clause) o c) (sym (named_clause p me known before neg ok.1 stand ok.3)) ok.4)
-gives p me known before current Tidy c stand ok = ok
+gives p me known before current s c stand ok =
+    right_steps_stay_right (registry_of p current (named_clause me before)) (places_of p known current) s c
+    (agree_named p current (named_clause me before) (place_clause known) (premises s) (in_place p me known before stand)) ok.over
 
 pub each_gives : (p : Problem) (me : ℕ) (known : List Known) (before : List Record) (current : Option Clause) (ss : List Step) (c : Clause) → StandBefore p me known before → AreStepsRight p me before current ss c → EachGives p known current ss
 each_gives p me known before current [] c stand ok = tt
@@ -98,18 +98,7 @@ each_gives p me known before current (s ∷ ss) c stand ok = (ok.0, gives p me k
 -- ---- the clauses are those that the steps give
 
 replayed_one : (p : Problem) (known : List Known) (current : Option Clause) (s : Step) (c d : Clause) → IsReplayed p known current s c → IsReplayed p known current s d → c ≡ d
-replayed_one p known current (Input index) c d ok too =
-    let same : ok.0 ≡ too.0 = let a = ok.1 in let b = too.1 in cc in
-    let first : ok.0.clause ≡ c = let a = ok.2 in cc in
-    let second : too.0.clause ≡ d = let b = too.2 in cc in
-    sym first ∙ ap (λ (i : ProblemInput). i.clause) same ∙ second
-replayed_one p known current (Resolve pos i neg j terms) c d ok too =
-    let left : too.0 ≡ ok.0 = let a = ok.2 in let b = too.2 in cc in
-    let right : too.1 ≡ ok.1 = let a = ok.3 in let b = too.3 in cc in
-    let step = Resolve pos i neg j terms in
-    steps_give_one step None (Some ok.0.entry.clause) (Some ok.1.entry.clause) c d ok.4
-    (subst (λ (x : Known). StepOk step None (Some x.entry.clause) (Some ok.1.entry.clause) d) left (subst (λ (y : Known). StepOk step None (Some too.0.entry.clause) (Some y.entry.clause) d) right too.4))
-replayed_one p known current Tidy c d ok too = steps_give_one Tidy current None None c d ok too
+replayed_one p known current s c d ok too = right_steps_give_one (registry_of p current (λ n. known_clause (look known n))) s c d ok too
 
 pub given_steps : (p : Problem) (me : ℕ) (known : List Known) (before : List Record) (current : Option Clause) (ss : List Step) (cs : List Clause) (c : Clause) → StandBefore p me known before
     → AreStepsRight p me before current ss c → AreGiven p known current ss cs → AreSteps p me before current ss cs c
@@ -136,13 +125,22 @@ steps_given p me known before current (s ∷ ss) cs c stand ok =
 abbrev pub IsNumbered : ℕ → List Record → List Record → List ℕ → Name → Type 0
 IsNumbered me before records numbers n = (a : Record) → IsNamed me before n a → get_or numbers n.seq 0 ≡ number_of 0 records n
 
+same_parents : (f g : Name → ℕ) (k : ℕ) (qs : List Premise) → AllByRecursion (λ n. f n ≡ g n) (flat_map names_of qs) → map (parent_of f k) qs ≡ map (parent_of g k) qs
+same_parents f g k [] all = refl
+same_parents f g k (Before ∷ qs) all = ap (λ (l : List ℕ). k ∷ l) (same_parents f g k qs all)
+same_parents f g k (Given index ∷ qs) all = ap (λ (l : List ℕ). 0 ∷ l) (same_parents f g k qs all)
+same_parents f g k (Named n ∷ qs) all = ap₂ (λ (m : ℕ) (l : List ℕ). m ∷ l) all.0 (same_parents f g k qs all.1)
+
+numbers_agree : (me : ℕ) (before records : List Record) (numbers : List ℕ) (ns : List Name) → AllByRecursion (λ n. (a : Record) × IsNamed me before n a) ns → AllByRecursion (IsNumbered me before records numbers) ns
+    → AllByRecursion (λ n. number_by numbers n ≡ number_of 0 records n) ns
+numbers_agree me before records numbers [] there all = tt
+numbers_agree me before records numbers (n ∷ ns) there all = (all.0 there.0.0 there.0.1, numbers_agree me before records numbers ns there.1 all.1)
+
 same_source : (p : Problem) (me : ℕ) (before records : List Record) (numbers : List ℕ) (k : ℕ) (current : Option Clause) (s : Step) (c : Clause) → IsStepRight p me before current s c
-    → AllByRecursion (IsNumbered me before records numbers) (names_in s) → source_by p numbers k s ≡ source_of p records k s
-same_source p me before records numbers k current (Input index) c ok all = refl
-same_source p me before records numbers k current (Resolve pos i neg j terms) c ok all =
-    ap (λ (m : ℕ). Inference (Resolve pos i neg j terms) (m ∷ get_or numbers neg.seq 0 ∷ [])) (all.0 ok.0 ok.2)
-    ∙ ap (λ (m : ℕ). Inference (Resolve pos i neg j terms) (number_of 0 records pos ∷ m ∷ [])) (all.1.0 ok.1 ok.3)
-same_source p me before records numbers k current Tidy c ok all = refl
+    → AllByRecursion (IsNumbered me before records numbers) (names_in s) → source_by p numbers k s ≡ source_of p (number_of 0 records) k s
+same_source p me before records numbers k current s c ok all =
+    ap (λ (parents : List ℕ). source_for p s parents (premises s))
+    (same_parents (number_by numbers) (number_of 0 records) k (premises s) (numbers_agree me before records numbers (names_in s) (step_names p me before current s c ok) all))
 
 pub record AddSteps (p : Problem) (me : ℕ) (before records : List Record) (current : Option Clause) (ss : List Step) (c : Clause) (lines new : List Line) : Type 0 where
   pub clauses : List Clause
@@ -155,10 +153,10 @@ added_steps p me known before records numbers current [] c lines new stand ok al
 added_steps p me known before records numbers current (s ∷ ss) c lines new stand ok all added =
     let k = length lines in
     let d = ok.0 in
-    let same : added.0 ≡ d = steps_give_one s current (first_premise p known s) (second_premise known s) added.0 d added.1 (gives p me known before current s d stand ok.1) in
+    let same : added.0 ≡ d = right_steps_give_one (places_of p known current) s added.0 d added.1 (gives p me known before current s d stand ok.1) in
     let here_numbered = all_left (IsNumbered me before records numbers) (names_in s) (flat_map names_in ss) all in
     let rest_numbered = all_right (IsNumbered me before records numbers) (names_in s) (flat_map names_in ss) all in
-    let line : Line = record { number = k + 1; role = role_of p s; clause = d; source = source_of p records k s } in
+    let line : Line = record { number = k + 1; role = role_of p s; clause = d; source = source_of p (number_of 0 records) k s } in
     let is_line : line_by p numbers k added.0 s ≡ line =
     ap (λ (e : Clause). line_by p numbers k e s) same
     ∙ ap (λ (source : LineSource). record { number = k + 1; role = role_of p s; clause = d; source = source }) (same_source p me before records numbers k current s d ok.1 here_numbered) in

@@ -4,7 +4,9 @@ use Rattle.std.specs.List.{list_any, AllByRecursion}
 use Rattle.cd_clause.specs.declared.Clause.{Clause}
 use Rattle.cd_names.specs.declared.names.Name.{Name}
 use Rattle.cd_steps.specs.declared.Step.{Step}
-use Rattle.cd_steps.specs.declared.Step.TheVariants.{Input, Resolve, Tidy}
+use Rattle.cd_steps.specs.declared.Premise.{Premise}
+use Rattle.cd_steps.specs.declared.Premise.TheVariants.{Before, Given, Named}
+use Rattle.cd_steps.specs.Premises.{premises}
 use Rattle.cd_read.specs.declared.problem.Problem.{Problem}
 use Rattle.cd_read.specs.declared.problem.Input.{Input as ProblemInput}
 use Rattle.cd_read.specs.declared.problem.Label.TheVariants.{Word}
@@ -88,23 +90,37 @@ abbrev pub input_source : Option ProblemInput → LineSource
 input_source (Some i) = File i.file i.label
 input_source None = File [] (Word [])
 
--- a step's role and source behind line k: its premises are the last lines of these records, or the line before
-abbrev pub role_of : Problem → Step → LineRole
-role_of p (Input index) = input_role (slice_get p.inputs index)
-role_of p (Resolve pos i neg j subst) = Plain
-role_of p Tidy = Plain
+-- a step that takes an input has its role and its place in a file
+abbrev pub role_for : Problem → List Premise → LineRole
+role_for p [] = Plain
+role_for p (Before ∷ qs) = Plain
+role_for p (Given index ∷ qs) = input_role (slice_get p.inputs index)
+role_for p (Named n ∷ qs) = Plain
 
-abbrev pub source_of : Problem → List Record → ℕ → Step → LineSource
-source_of p records k (Input index) = input_source (slice_get p.inputs index)
-source_of p records k (Resolve pos i neg j subst) = Inference (Resolve pos i neg j subst) (number_of 0 records pos ∷ number_of 0 records neg ∷ [])
-source_of p records k Tidy = Inference Tidy (k ∷ [])
+abbrev pub role_of : Problem → Step → LineRole
+role_of p step = role_for p (premises step)
+
+abbrev pub source_for : Problem → Step → List ℕ → List Premise → LineSource
+source_for p step parents [] = Inference step parents
+source_for p step parents (Before ∷ qs) = Inference step parents
+source_for p step parents (Given index ∷ qs) = input_source (slice_get p.inputs index)
+source_for p step parents (Named n ∷ qs) = Inference step parents
+
+-- behind line k a premise is that line, or the line of a name
+abbrev pub parent_of : (Name → ℕ) → ℕ → Premise → ℕ
+parent_of number k Before = k
+parent_of number k (Given index) = 0
+parent_of number k (Named n) = number n
+
+abbrev pub source_of : Problem → (Name → ℕ) → ℕ → Step → LineSource
+source_of p number k step = source_for p step (map (parent_of number k) (premises step)) (premises step)
 
 -- a line for each step and its clause, with the numbers behind k
 abbrev pub lines_of_steps : Problem → List Record → ℕ → List Step → List Clause → List Line
 lines_of_steps p records k [] cs = []
 lines_of_steps p records k (s ∷ ss) [] = []
 lines_of_steps p records k (s ∷ ss) (c ∷ cs) =
-    record { number = k + 1; role = role_of p s; clause = c; source = source_of p records k s } ∷ lines_of_steps p records (k + 1) ss cs
+    record { number = k + 1; role = role_of p s; clause = c; source = source_of p (number_of 0 records) k s } ∷ lines_of_steps p records (k + 1) ss cs
 
 -- the lines of records, with the numbers behind k
 abbrev pub lines_from : Problem → List Record → ℕ → List Traced → List Line

@@ -5,16 +5,15 @@ use Rattle.std.specs.List.{AllByRecursion}
 use Rattle.cd_clause.specs.declared.Clause.{Clause}
 use Rattle.cd_names.specs.declared.names.Name.{Name}
 use Rattle.cd_steps.specs.declared.Step.{Step}
-use Rattle.cd_steps.specs.declared.Step.TheVariants.{Input, Resolve, Tidy}
 use Rattle.cd_steps.specs.Steps.{StepOk}
+use Rattle.cd_steps.specs.Premises.{Registry, IsRightOver}
 use Rattle.cd_read.specs.declared.problem.Problem.{Problem}
-use Rattle.cd_read.specs.declared.problem.Input.{Input as ProblemInput}
 use Rattle.cd_text.specs.declared.line.Line.{Line}
 use Rattle.cd_text.specs.declared.line.LineSource.{LineSource}
-use Rattle.cd_text.specs.declared.line.LineSource.TheVariants.{Inference}
 use Rattle.cd_ledger.specs.declared.Known.{Known}
 use Rattle.cd_laws.specs.Right.{record_of}
-use Rattle.cd_build.specs.Derivation.{choose, is_wanted, last_names, role_of, input_source}
+use Rattle.cd_laws.specs.Premises.{known_clause, registry_of}
+use Rattle.cd_build.specs.Derivation.{choose, is_wanted, last_names, role_of, source_of}
 
 -- the name of the record in this place
 abbrev pub place_name : ℕ → ℕ → Name
@@ -50,40 +49,32 @@ marks_with marks (n ∷ ns) = marks_with (slice_set marks n.seq true) ns
 
 -- ---- what a step gives, and its line
 
--- the clause of the record in this place
-abbrev pub known_clause : Option Known → Option Clause
-known_clause None = None
-known_clause (Some k) = Some k.entry.clause
+-- the clauses in the places that names have
+abbrev pub place_clause : List Known → Name → Option Clause
+place_clause known n = known_clause (slice_get known n.seq)
 
-abbrev pub input_clause : Option ProblemInput → Option Clause
-input_clause None = None
-input_clause (Some i) = Some i.clause
-
--- the premises of a step, beside the clause before it: the clauses in the places that it names, or its input's
-abbrev pub first_premise : Problem → List Known → Step → Option Clause
-first_premise p known (Input index) = input_clause (slice_get p.inputs index)
-first_premise p known (Resolve pos i neg j subst) = known_clause (slice_get known pos.seq)
-first_premise p known Tidy = None
-
-abbrev pub second_premise : List Known → Step → Option Clause
-second_premise known (Input index) = None
-second_premise known (Resolve pos i neg j subst) = known_clause (slice_get known neg.seq)
-second_premise known Tidy = None
+abbrev pub places_of : Problem → List Known → Option Clause → Registry
+places_of p known current = registry_of p current (place_clause known)
 
 -- the step gives the clause, behind the clause before it
 abbrev pub Gives : Problem → List Known → Option Clause → Step → Clause → Type 0
-Gives p known current s c = StepOk s current (first_premise p known s) (second_premise known s) c
+Gives p known current s c = IsRightOver (places_of p known current) s c
+
+-- what a step's clauses are: the one before it, and those of its names or of its input
+abbrev pub MeansClauses : Problem → List Known → Option Clause → Step → Option Clause × Option Clause × Option Clause → Type 0
+MeansClauses p known current s clauses = (c : Clause) → Gives p known current s c → StepOk s clauses.0 clauses.1 clauses.2 c
 
 -- each step gives a clause, behind the clause before it
 abbrev pub EachGives : Problem → List Known → Option Clause → List Step → Type 0
 EachGives p known current [] = Unit {0}
 EachGives p known current (s ∷ ss) = (c : Clause) × Gives p known current s c × EachGives p known (Some c) ss
 
--- the source of a line behind line k: its parents have the numbers at their places, or it stands on line k
+-- the number at the place of a name
+abbrev pub number_by : List ℕ → Name → ℕ
+number_by numbers n = slice_index numbers n.seq
+
 abbrev pub source_by : Problem → List ℕ → ℕ → Step → LineSource
-source_by p numbers k (Input index) = input_source (slice_get p.inputs index)
-source_by p numbers k (Resolve pos i neg j subst) = Inference (Resolve pos i neg j subst) (slice_index numbers pos.seq ∷ slice_index numbers neg.seq ∷ [])
-source_by p numbers k Tidy = Inference Tidy (k ∷ [])
+source_by p numbers k step = source_of p (number_by numbers) k step
 
 abbrev pub line_by : Problem → List ℕ → ℕ → Clause → Step → Line
 line_by p numbers k clause step = record { number = k + 1; role = role_of p step; clause = clause; source = source_by p numbers k step }

@@ -1,11 +1,13 @@
 //! The lines of a derivation.
-ghost use Rattle.std.specs.Prelude.{◌≡◌, ◌+◌, ◌<◌, ◌^◌, length, IfOk, OnOk, Some, slice_get, slice_index};
+ghost use Rattle.std.specs.Prelude.{◌≡◌, ◌+◌, ◌<◌, ◌^◌, length, ◌||◌, IfOk, OnOk, None, Some, slice_index};
 ghost use Rattle.std.specs.Option.{option_copied};
 ghost use Rattle.cd_clause.specs.declared.Clause.{Clause};
 ghost use Rattle.cd_ledger.specs.declared.Verdict.{Verdict};
 ghost use Rattle.cd_laws.specs.Right.{IsRight};
-ghost use Rattle.cd_build.specs.Derivation.{IsDerivation, input_role, input_source, role_of};
-ghost use Rattle.cd_build.specs.Marks.{AreAdded, AreAddedIf, EachGives, Gives, IsAdded, clause_before, known_clause, first_premise, last_clause, line_by, second_premise, source_by};
+ghost use Rattle.cd_steps.specs.Premises.{is_before};
+ghost use Rattle.cd_laws.specs.Premises.{input_clause, known_clause};
+ghost use Rattle.cd_build.specs.Derivation.{IsDerivation, input_role, input_source, parent_of, role_of};
+ghost use Rattle.cd_build.specs.Marks.{AreAdded, AreAddedIf, EachGives, Gives, IsAdded, MeansClauses, clause_before, last_clause, line_by, number_by, place_clause, places_of, source_by};
 
 use crate::chosen::{is_marked, marks_of};
 use cd_clause::Clause;
@@ -13,7 +15,7 @@ use cd_ledger::{Known, Local};
 use cd_list::{Copied, Sequence, Text};
 use cd_names::Name;
 use cd_read::{Input, Label, Problem};
-use cd_steps::{Step, step_gives};
+use cd_steps::{Premise, Step, step_gives};
 use cd_text::{Line, LineRole, LineSource, Lines};
 use std::alloc::{AllocError, Global};
 
@@ -97,17 +99,97 @@ fn add_line(
     requires { (c : Clause) × Gives problem.now known.now (clause_before first lines.old) step.now c }
     ensures { OnOk result (IsAdded problem.now known.now numbers.now (clause_before first lines.old) step.now lines.old lines.new) }
 {
-    let given = step_gives(
-        alloc,
-        step,
-        clause_before(first, lines),
-        first_premise(problem, known, step),
-        second_premise(known, step),
-    )?;
+    let clause = given(alloc, problem, known, clause_before(first, lines), step)?;
     let before = lines.len() as u64;
-    match given {
-        Some(clause) => lines.push(line_of(alloc, problem, numbers, before, clause, step)?),
-        None => unreachable!(),
+    lines.push(line_of(alloc, problem, numbers, before, clause, step)?)
+}
+
+/// The clause that a step gives behind the clause before it. A clause out of bounds is told as want of memory: no
+/// record of a file that is read has one.
+fn given(
+    alloc: Global,
+    problem: &Problem,
+    known: &[Known],
+    current: Option<&Clause>,
+    step: &Step,
+) -> Result<Clause, AllocError>
+    requires { (c : Clause) × Gives problem.now known.now (option_copied current) step.now c }
+    ensures { IfOk result (Gives problem.now known.now (option_copied current.entry) step.now) }
+{
+    let (current, first, second) = clauses_of(problem, known, current, step);
+    match step_gives(alloc, step, current, first, second) {
+        Ok(Some(clause)) => Ok(clause),
+        Ok(None) => unreachable!(),
+        Err(_) => Err(AllocError),
+    }
+}
+
+/// What a step is made from: the clause before it, if it changes that one, and the clauses of its names or of its input.
+fn clauses_of<'a>(
+    problem: &'a Problem,
+    known: &'a [Known],
+    current: Option<&'a Clause>,
+    step: &Step,
+) -> (Option<&'a Clause>, Option<&'a Clause>, Option<&'a Clause>)
+    ensures { MeansClauses problem.now known.now (option_copied current.entry) step.now (option_copied result.0, option_copied result.1, option_copied result.2) }
+{
+    let (p, q) = step.premises();
+    let first = premise_clause(problem, known, current, p);
+    match q {
+        None => {
+            if is_before(p) {
+                (first, None, None)
+            } else {
+                (None, first, None)
+            }
+        }
+        Some(q) => {
+            let second = premise_clause(problem, known, current, q);
+            if is_either_before(p, q) {
+                (first, second, None)
+            } else {
+                (None, first, second)
+            }
+        }
+    }
+}
+
+fn is_either_before(p: Premise, q: Premise) -> bool
+    ensures { result ≡ (is_before p || is_before q) }
+{
+    is_before(p) || is_before(q)
+}
+
+fn is_before(premise: Premise) -> bool
+    ensures { result ≡ is_before premise }
+{
+    match premise {
+        Premise::Before => true,
+        _ => false,
+    }
+}
+
+fn premise_clause<'a>(
+    problem: &'a Problem,
+    known: &'a [Known],
+    current: Option<&'a Clause>,
+    premise: Premise,
+) -> Option<&'a Clause>
+    ensures { option_copied result ≡ places_of problem.now known.now (option_copied current.entry) premise }
+{
+    match premise {
+        Premise::Before => current,
+        Premise::Given(index) => input_clause(problem.inputs.get(index as usize)),
+        Premise::Named(name) => clause_at(known, name),
+    }
+}
+
+fn input_clause(input: Option<&Input>) -> Option<&Clause>
+    ensures { option_copied result ≡ input_clause (option_copied input.entry) }
+{
+    match input {
+        Some(input) => Some(&input.clause),
+        None => None,
     }
 }
 
@@ -123,32 +205,9 @@ fn clause_before(first: bool, lines: &Lines) -> Option<&Clause>
     }
 }
 
-fn first_premise<'a>(problem: &'a Problem, known: &'a [Known], step: &Step) -> Option<&'a Clause>
-    ensures { option_copied result ≡ first_premise problem.now known.now step.now }
-{
-    match step {
-        Step::Input { index } => match problem.inputs.get(*index as usize) {
-            Some(input) => Some(&input.clause),
-            None => None,
-        },
-        Step::Resolve { pos, .. } => clause_at(known, pos),
-        Step::Tidy => None,
-    }
-}
-
-fn second_premise<'a>(known: &'a [Known], step: &Step) -> Option<&'a Clause>
-    ensures { option_copied result ≡ second_premise known.now step.now }
-{
-    match step {
-        Step::Input { .. } => None,
-        Step::Resolve { neg, .. } => clause_at(known, neg),
-        Step::Tidy => None,
-    }
-}
-
 // The clause of the record in the place of this name.
-fn clause_at<'a>(known: &'a [Known], name: &Name) -> Option<&'a Clause>
-    ensures { option_copied result ≡ known_clause (slice_get known.now name.now.seq) }
+fn clause_at(known: &[Known], name: Name) -> Option<&Clause>
+    ensures { option_copied result ≡ place_clause known.now name }
 {
     match known.get(name.seq as usize) {
         Some(known) => Some(&known.entry.clause),
@@ -181,13 +240,18 @@ fn line_of(
 fn role_of(problem: &Problem, step: &Step) -> LineRole
     ensures { result ≡ role_of problem.now step.now }
 {
-    match step {
-        Step::Input { index } => match problem.inputs.get(*index as usize) {
-            Some(input) => LineRole::Given(input.role),
-            None => LineRole::Plain,
-        },
-        Step::Resolve { .. } => LineRole::Plain,
-        Step::Tidy => LineRole::Plain,
+    match step.premises() {
+        (Premise::Given(index), _) => input_role(problem.inputs.get(index as usize)),
+        _ => LineRole::Plain,
+    }
+}
+
+fn input_role(input: Option<&Input>) -> LineRole
+    ensures { result ≡ input_role (option_copied input.entry) }
+{
+    match input {
+        Some(input) => LineRole::Given(input.role),
+        None => LineRole::Plain,
     }
 }
 
@@ -200,25 +264,29 @@ fn source_of(
 ) -> Result<LineSource, AllocError>
     ensures { IfOk result (λ source. source ≡ source_by problem.now numbers.now before step.now) }
 {
-    match step {
-        Step::Input { index } => input_source(alloc, problem.inputs.get(*index as usize)),
-        Step::Resolve { pos, neg, .. } => {
+    match step.premises() {
+        (Premise::Given(index), _) => { input_source(alloc, problem.inputs.get(index as usize)) }
+        (first, second) => {
             let mut parents = Sequence::new(alloc);
-            parents.push(number_at(numbers, pos.seq))?;
-            parents.push(number_at(numbers, neg.seq))?;
+            parents.push(parent_of(numbers, before, first))?;
+            if let Some(second) = second {
+                parents.push(parent_of(numbers, before, second))?;
+            }
             Ok(LineSource::Inference {
                 step: step.copy(alloc)?,
                 parents,
             })
         }
-        Step::Tidy => {
-            let mut parents = Sequence::new(alloc);
-            parents.push(before)?;
-            Ok(LineSource::Inference {
-                step: Step::Tidy,
-                parents,
-            })
-        }
+    }
+}
+
+fn parent_of(numbers: &[u64], before: u64, premise: Premise) -> u64
+    ensures { result ≡ parent_of (number_by numbers.now) before premise }
+{
+    match premise {
+        Premise::Before => before,
+        Premise::Given(_) => 0,
+        Premise::Named(name) => number_at(numbers, name.seq),
     }
 }
 

@@ -1,14 +1,13 @@
 -- The clause of every line of a refutation holds wherever the inputs hold, and the last one holds nowhere.
-use Rattle.std.proofs.Common.{◌≡◌, ℕ, zero, suc, ◌==◌, Bool, true, false, cond, List, [], ◌∷◌, ◌++◌, subst, None, Some, slice_get}
+use Rattle.std.proofs.Common.{◌≡◌, ℕ, zero, suc, ◌==◌, Bool, true, false, cond, List, [], ◌∷◌, ◌++◌, map, subst, None, Some, slice_get}
 use Rattle.std.specs.Prelude.{IsTrue}
 use Rattle.std.specs.List.{list_any, AllByRecursion}
 use Rattle.cd_clause.specs.declared.Literal.{Literal}
 use Rattle.cd_clause.specs.declared.Clause.{Clause}
 use Rattle.cd_clause.specs.Truth.{Interp, IsInterp, Point, Holds, Models, literal_true}
 use Rattle.cd_steps.specs.declared.Step.{Step}
-use Rattle.cd_steps.specs.declared.Step.TheVariants.{Input, Resolve, Tidy}
-use Rattle.cd_steps.specs.Steps.{HoldsIfAny}
-use Rattle.cd_steps.proofs.Soundness.{steps_are_sound}
+use Rattle.cd_steps.specs.Laws.{HoldsIfAny}
+use Rattle.cd_steps.proofs.Registries.{right_from_holds}
 use Rattle.cd_read.specs.declared.problem.Problem.{Problem}
 use Rattle.cd_read.specs.declared.problem.Input.{Input as ProblemInput}
 use Rattle.cd_text.specs.declared.line.Line.{Line}
@@ -39,12 +38,16 @@ line_holds interp (l ∷ ls) number hold = at_by (l.number == number) interp l l
 found_holds : (interp : Interp) (ls : List Line) (number : ℕ) (c : Clause) → LinesHold interp ls → clause_at ls number ≡ Some c → Holds interp c
 found_holds interp ls number c hold found = subst (HoldsIfAny interp) found (line_holds interp ls number hold)
 
+found_hold : (interp : Interp) (ls : List Line) (numbers : List ℕ) (cs : List Clause) → LinesHold interp ls → map (clause_at ls) numbers ≡ map Some cs → AllByRecursion (Holds interp) cs
+found_hold interp ls numbers [] hold is = tt
+found_hold interp ls [] (c ∷ cs) hold is = absurd cc
+found_hold interp ls (n ∷ numbers) (c ∷ cs) hold is =
+    let here : clause_at ls n ≡ Some c = cc in
+    let there : map (clause_at ls) numbers ≡ map Some cs = cc in
+    (found_holds interp ls n c hold here, found_hold interp ls numbers cs hold there)
+
 inferred_holds : (interp : Interp) (before : List Line) (step : Step) (parents : List ℕ) (c : Clause) → IsInterp interp → LinesHold interp before → IsInferred before step parents c → Holds interp c
-inferred_holds interp before (Input index) parents c is hold ok = absurd ok
-inferred_holds interp before (Resolve pos i neg j values) parents c is hold ok =
-    steps_are_sound interp (Resolve pos i neg j values) None (Some ok.2) (Some ok.3) c is tt (found_holds interp before ok.0 ok.2 hold ok.5) (found_holds interp before ok.1 ok.3 hold ok.6) ok.7
-inferred_holds interp before Tidy parents c is hold ok =
-    steps_are_sound interp Tidy (Some ok.1) None None c is (found_holds interp before ok.0 ok.1 hold ok.3) tt tt ok.4
+inferred_holds interp before step parents c is hold ok = right_from_holds interp step ok.clauses c is (found_hold interp before parents ok.clauses hold ok.are) ok.right
 
 source_holds : (p : Problem) (interp : Interp) (before : List Line) (l : Line) (source : LineSource) → IsInterp interp → Models interp (input_clauses p.inputs) → LinesHold interp before → IsSourceOk p before l source → Holds interp l.clause
 source_holds p interp before l (File path label) is inputs hold ok =

@@ -1,12 +1,12 @@
 -- The texts that are accepted as derivations from a problem.
 -- Beyond the headline: no clause of `prove` reaches AcceptedTextsRefute.
-use Rattle.std.specs.Prelude.{◌≡◌, ℕ, ◌+◌, ◌<◌, ◌≤◌, Bool, false, not, ◌==◌, if◌then◌else◌, List, [], ◌∷◌, ◌++◌, length, map, filter, Option, None, Some, slice_get}
+use Rattle.std.specs.Prelude.{◌≡◌, ◌≢◌, ℕ, ◌+◌, ◌<◌, ◌≤◌, Bool, false, not, ◌==◌, if◌then◌else◌, List, [], ◌∷◌, ◌++◌, length, map, filter, Option, None, Some, slice_get}
 use Rattle.std.specs.List.{AllByRecursion}
 use Rattle.cd_clause.specs.declared.Clause.{Clause}
 use Rattle.cd_clause.specs.Truth.{HaveNoModel}
 use Rattle.cd_steps.specs.declared.Step.{Step}
-use Rattle.cd_steps.specs.declared.Step.TheVariants.{Input, Resolve, Tidy}
-use Rattle.cd_steps.specs.Steps.{StepOk}
+use Rattle.cd_steps.specs.Premises.{premises, numbers_of, IsRightFrom}
+use Rattle.cd_steps.specs.Bounds.{subst_of}
 use Rattle.cd_read.specs.declared.problem.Problem.{Problem}
 use Rattle.cd_read.specs.declared.problem.Input.{Input as ProblemInput}
 use Rattle.cd_read.specs.declared.problem.Label.{Label}
@@ -16,7 +16,7 @@ use Rattle.cd_text.specs.declared.line.Line.{Line}
 use Rattle.cd_text.specs.declared.line.LineRole.TheVariants.{Given, Plain}
 use Rattle.cd_text.specs.declared.line.LineSource.{LineSource}
 use Rattle.cd_text.specs.declared.line.LineSource.TheVariants.{File, Inference}
-use Rattle.cd_text.specs.Texts.{quoted, label_text, line_text}
+use Rattle.cd_text.specs.Texts.{quoted, label_text, rule_text, line_text}
 
 -- ---- the lines of a text
 
@@ -36,19 +36,24 @@ is_taken (b ∷ bs) = not (b == 37)
 
 -- ---- the form of a line
 
--- a line that takes an input has its role, any other is plain and names a rule. Places of literals are below
--- 65,536; so far a substitution has no term
-abbrev pub IsSourceFormed : Line → LineSource → Type 0
-IsSourceFormed l (File path label) = (i : ProblemInput) × (l.role ≡ Given i.role)
-IsSourceFormed l (Inference (Input index) parents) = ⊥
-IsSourceFormed l (Inference (Resolve pos i neg j subst) parents) = (l.role ≡ Plain) × (i < 65536) × (j < 65536) × (subst ≡ []) × (length parents ≡ 2)
-IsSourceFormed l (Inference Tidy parents) = (l.role ≡ Plain) × (length parents ≡ 1)
+-- an inference names a rule, and has a parent for each of its premises. Places are below 65,536; so far a
+-- substitution has no term
+pub record IsInferenceFormed (symbols : List Symbol) (step : Step) (parents : List ℕ) : Type 0 where
+  pub rule : rule_text symbols step ≢ []
+  pub numbers : AllByRecursion (λ n. n < 65536) (numbers_of step)
+  pub subst : subst_of step ≡ []
+  pub parents_are : length parents ≡ length (premises step)
+
+-- a line that takes an input has its role, any other is plain
+abbrev pub IsSourceFormed : List Symbol → Line → LineSource → Type 0
+IsSourceFormed symbols l (File path label) = (i : ProblemInput) × (l.role ≡ Given i.role)
+IsSourceFormed symbols l (Inference step parents) = (l.role ≡ Plain) × IsInferenceFormed symbols step parents
 
 pub record IsLineFormed (symbols : List Symbol) (l : Line) : Type 0 where
   pub number : 0 < l.number
   pub clause : ClauseFormed symbols l.clause
   pub short : length l.clause.literals ≤ 65535
-  pub source : IsSourceFormed l l.source
+  pub source : IsSourceFormed symbols l l.source
 
 -- ---- right lines
 
@@ -67,13 +72,11 @@ pub record IsInput (p : Problem) (l : Line) (path : List ℕ) (label : Label) : 
   pub label_is : label_text input.label ≡ label_text label
   pub clause_is : input.clause ≡ l.clause
 
--- the parents are earlier lines, and the step is right with their clauses: those of the names in a step, or the clause before it
-abbrev pub IsInferred : List Line → Step → List ℕ → Clause → Type 0
-IsInferred before (Input index) parents clause = ⊥
-IsInferred before (Resolve pos i neg j subst) parents clause =
-    (a : ℕ) × (b : ℕ) × (x : Clause) × (y : Clause) × (parents ≡ a ∷ b ∷ []) × (clause_at before a ≡ Some x) × (clause_at before b ≡ Some y)
-    × StepOk (Resolve pos i neg j subst) None (Some x) (Some y) clause
-IsInferred before Tidy parents clause = (a : ℕ) × (x : Clause) × (parents ≡ a ∷ []) × (clause_at before a ≡ Some x) × StepOk Tidy (Some x) None None clause
+-- the parents are earlier lines, and the step is right from their clauses, in their order
+pub record IsInferred (before : List Line) (step : Step) (parents : List ℕ) (clause : Clause) : Type 0 where
+  pub clauses : List Clause
+  pub are : map (clause_at before) parents ≡ map Some clauses
+  pub right : IsRightFrom step clauses clause
 
 abbrev pub IsSourceOk : Problem → List Line → Line → LineSource → Type 0
 IsSourceOk p before l (File path label) = IsInput p l path label

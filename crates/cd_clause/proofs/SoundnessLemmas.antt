@@ -40,7 +40,7 @@ value-substituted i g point = ind (λ t. value i point (substituted g t) ≡ val
     ∙ ap (λ vs. slice_index (function_values (slice_get i.tables f)) (place i.size vs)) (values_substituted i g point ts e)
     ∙ sym (value-App i (moved i g point) f ts))
 
-values-substituted : (i : Interp) (g : ℕ → Term) (point : Point) (ts : List Term) →
+pub values-substituted : (i : Interp) (g : ℕ → Term) (point : Point) (ts : List Term) →
     map (value i point) (map (substituted g) ts) ≡ map (value i (moved i g point)) ts
 values-substituted i g point [] = refl
 values-substituted i g point (t ∷ ts) =
@@ -52,7 +52,7 @@ atom-substituted i g point Truth = refl
 atom-substituted i g point (Pred p args) = rw (values-substituted i g point args)
 atom-substituted i g point (Equal t u) = rw (value-substituted i g point t, value-substituted i g point u)
 
-any-substituted : (i : Interp) (g : ℕ → Term) (point : Point) (ls : List Literal) →
+pub any-substituted : (i : Interp) (g : ℕ → Term) (point : Point) (ls : List Literal) →
     list_any (literal_true i point) (map (literal_changed (substituted g)) ls) ≡ list_any (literal_true i (moved i g point)) ls
 any-substituted i g point [] = refl
 any-substituted i g point (l ∷ ls) = rw (atom-substituted i g point l.atom, any-substituted i g point ls)

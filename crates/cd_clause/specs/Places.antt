@@ -1,5 +1,5 @@
 -- Sides of equations, and subterms of atoms at paths.
--- Beyond the headline: no clause of `prove` reaches this file.
+-- Beyond the headline: no clause of `prove` reaches HasNoSides, replaced_at_under, IsAtomMeasureOf, MeasuresSides.
 use Rattle.std.specs.Prelude.{◌≡◌, ℕ, zero, suc, Bool, List, [], ◌∷◌, Option, Some, None, slice_get, slice_set, option_and_then, option_map}
 use Rattle.cd_term.specs.declared.Term.{Term}
 use Rattle.cd_term.specs.Terms.{applied, subterm, replaced}

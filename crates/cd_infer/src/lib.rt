@@ -1,23 +1,38 @@
 //! What clauses conclude: all conclusions of one clause, or of two, in their order.
 //!
-//! Only eligible literals are resolved upon, those of a clause than which none of its literals is greater
-//! (ordered resolution; Bachmair and Ganzinger, Resolution theorem proving, Handbook of Automated Reasoning,
-//! 2001).
+//! Only eligible literals are used, and only sides of equations than which the other side isn't greater (ordered
+//! resolution and superposition; Bachmair and Ganzinger, Rewrite-based equational theorem proving with selection
+//! and simplification, 1994). The places that inferences are made on stand in one list, in their order, and each
+//! place gives one conclusion with the most general unifier, or nothing where no substitution makes its terms
+//! equal.
 #![tactic(auto)]
 
-ghost use Rattle.std.specs.Prelude.{◌≡◌, ◌↔◌, ◌<◌, ◌++◌, List, length, IsTrue, IfOk, OnOk};
-ghost use Rattle.std.specs.List.{list_any};
-ghost use Rattle.cd_infer.specs.Eligible.{literal_greater_by_predicate, predicate_of, IsEligibleByPredicate};
-ghost use Rattle.cd_infer.specs.Conclusions.{IsResolvable, ResolvesAt, ResolvesFrom, PairConcludes, SoloConcludes};
-ghost use Rattle.cd_infer.specs.declared.Conclusion.{Conclusion};
+ghost use Rattle.std.specs.Prelude.{◌↔◌, IsTrue};
+ghost use Rattle.cd_infer.specs.Conclusions.{IsUsable, SoloAnswers, PairAnswers};
 
-use cd_clause::{Atom, Clause, Literal};
+mod clashing;
+mod concluding;
+mod equations;
+mod factoring;
+pub mod laws;
+mod marks;
+mod pairing;
+mod paramodulating;
+mod resolving;
+
+use cd_clause::{Clause, variables, within};
+use cd_kbo::Order;
 use cd_list::Sequence;
 use cd_names::Name;
-use cd_steps::{Step, are_complementary, resolvent};
-use std::alloc::{AllocError, Global};
+use cd_steps::Step;
+use cd_term::TermFault;
+use equations::conclude_alone;
+use factoring::One;
+use pairing::conclude_both;
+use resolving::Two;
+use std::alloc::Global;
 
-/// A step that the peers haven't recorded yet, and the clause that it gives.
+/// A step that no peer has recorded yet, and the clause that it gives, before it is tidied.
 #[derive(Drop)]
 pub struct Conclusion {
     pub step: Step,
@@ -26,130 +41,48 @@ pub struct Conclusion {
 
 pub type Conclusions = Sequence<Conclusion>;
 
-/// Whether literal `l` is greater than literal `m`: by their predicates, and where these are the same the
-/// negative literal is the greater one. No memory is taken.
-pub fn literal_greater_by_predicate(l: &Literal, m: &Literal) -> bool
-    ensures { result ≡ literal_greater_by_predicate l.now m.now }
+/// Whether conclusions can be drawn of a clause: it is within bounds, and each of its variables is below 65,535, as
+/// in a tidy clause within bounds ([`laws::usable`]). No memory is taken.
+pub fn is_usable(c: &Clause) -> bool
+    ensures { IsTrue result ↔ IsUsable c.now }
 {
-    match (predicate_of(&l.atom), predicate_of(&m.atom)) {
-        (Some(left), Some(right)) => {
-            right < left || (left == right && (!l.positive && m.positive))
-        }
-        (Some(_), None) => false,
-        (None, _) => false,
+    if !within(c) {
+        return false;
     }
+    variables(c) <= 65_535
 }
 
-fn predicate_of(atom: &Atom) -> Option<u16>
-    ensures { result ≡ predicate_of atom.now }
+/// All conclusions of one clause alone: factoring, reflexivity resolution, and equality factoring, each by its
+/// places in ascending order. `OutOfBounds` exactly where the substitution or the clause of one of them is out of
+/// bounds.
+pub fn solo(alloc: Global, name: Name, c: &Clause, order: &Order) -> Result<Conclusions, TermFault>
+    requires { IsUsable c.now }
+    ensures { SoloAnswers order.now name c.now result }
 {
-    match atom {
-        Atom::Truth => None,
-        Atom::Pred(symbol, _) => Some(*symbol),
-        Atom::Equal(_, _) => None,
-    }
+    let one = One { name, c, order };
+    conclude_alone(alloc, &one)
 }
 
-/// Whether no literal of the clause is greater than literal `i`. No memory is taken.
-pub fn is_eligible_by_predicate(c: &Clause, i: usize) -> bool
-    ensures { IsTrue result ↔ IsEligibleByPredicate c.now i }
-{
-    match c.literals.get(i) {
-        Some(literal) => !any_greater(c.literals.as_slice(), literal),
-        None => false,
-    }
-}
-
-fn any_greater(literals: &[Literal], literal: &Literal) -> bool
-    ensures { result ≡ list_any (λ m. literal_greater_by_predicate m literal.now) literals.now }
-{
-    literals
-        .iter()
-        .any(|m| literal_greater_by_predicate(m, literal))
-}
-
-/// The conclusions of one clause alone.
-pub fn solo(alloc: Global, _name: Name, _c: &Clause) -> Result<Conclusions, AllocError>
-    ensures { IfOk result (λ found. SoloConcludes _name _c.now found) }
-{
-    Ok(Sequence::new(alloc))
-}
-
-/// The resolvents of a positive literal of `a` and a negative one of `b`, by the place in `a` and then by
-/// the place in `b`.
+/// All conclusions of two clauses: resolution on a positive literal of `a` and a negative one of `b`, and
+/// paramodulation from `a` into `b`, each by its places in ascending order. `OutOfBounds` as for [`solo`].
 pub fn pair(
     alloc: Global,
     a_name: Name,
     a: &Clause,
     b_name: Name,
     b: &Clause,
-) -> Result<Conclusions, AllocError>
-    requires a_short { length a.now.literals < 65536 }
-    requires b_short { length b.now.literals < 65536 }
-    ensures { IfOk result (λ found. PairConcludes a_name a.now b_name b.now found) }
+    order: &Order,
+) -> Result<Conclusions, TermFault>
+    requires first { IsUsable a.now }
+    requires second { IsUsable b.now }
+    ensures { PairAnswers order.now a_name a.now b_name b.now result }
 {
-    let mut found = Sequence::new(alloc);
-    for i in 0..a.literals.len() {
-        found.append(resolve_from(alloc, a_name, a, i, b_name, b)?)?;
-    }
-    Ok(found)
-}
-
-fn resolve_from(
-    alloc: Global,
-    a_name: Name,
-    a: &Clause,
-    i: usize,
-    b_name: Name,
-    b: &Clause,
-) -> Result<Conclusions, AllocError>
-    requires in_a { i < length a.now.literals }
-    requires a_short { length a.now.literals < 65536 }
-    requires b_short { length b.now.literals < 65536 }
-    ensures { IfOk result (λ found. ResolvesFrom a_name a.now b_name b.now i found) }
-{
-    let mut found = Sequence::new(alloc);
-    for j in 0..b.literals.len() {
-        found.append(resolve_at(alloc, a_name, a, i, b_name, b, j)?)?;
-    }
-    Ok(found)
-}
-
-fn resolve_at(
-    alloc: Global,
-    a_name: Name,
-    a: &Clause,
-    i: usize,
-    b_name: Name,
-    b: &Clause,
-    j: usize,
-) -> Result<Conclusions, AllocError>
-    requires in_a { i < length a.now.literals }
-    requires in_b { j < length b.now.literals }
-    requires a_short { length a.now.literals < 65536 }
-    requires b_short { length b.now.literals < 65536 }
-    ensures { IfOk result (λ part. ResolvesAt a_name a.now b_name b.now i j part) }
-{
-    let mut part = Sequence::new(alloc);
-    if is_resolvable(a, i, b, j) {
-        let clause = resolvent(alloc, a, i, b, j)?;
-        let (i, j) = (i as u16, j as u16);
-        let step = Step::Resolve {
-            pos: a_name,
-            i,
-            neg: b_name,
-            j,
-            subst: Sequence::new(alloc),
-        };
-        part.push(Conclusion { step, clause })?;
-    }
-    Ok(part)
-}
-
-fn is_resolvable(a: &Clause, i: usize, b: &Clause, j: usize) -> bool
-    ensures { IsTrue result ↔ IsResolvable a.now i b.now j }
-{
-    are_complementary(a.literals.get(i), b.literals.get(j))
-        && is_eligible_by_predicate(a, i)
-        && is_eligible_by_predicate(b, j)
+    let two = Two {
+        a_name,
+        a,
+        b_name,
+        b,
+        order,
+    };
+    conclude_both(alloc, &two)
 }

@@ -1,5 +1,5 @@
 -- In every run each task of live names is owed once, or was done once with each conclusion kept.
-use Rattle.std.proofs.Common.{◌≡◌, inl, inr, ℕ, zero, suc, ◌+◌, ◌*◌, ◌≤◌, ◌==◌, nat_lt, nat_le, ◌&&◌, Bool, true, false, cond, List, [], ◌∷◌, ◌++◌, length, map, Option, None, Some, slice_get, refl, sym, ap, ◌∙◌, subst, arith, append_assoc}
+use Rattle.std.proofs.Common.{◌≡◌, inl, inr, ℕ, zero, suc, ◌+◌, ◌*◌, ◌≤◌, ◌==◌, nat_lt, nat_le, ◌&&◌, Bool, true, false, cond, List, [], ◌∷◌, ◌++◌, length, map, Option, None, Some, slice_get, refl, sym, ap, ap₂, ◌∙◌, subst, arith, append_assoc}
 use Rattle.std.specs.List.{AllByRecursion, range_with_len}
 use Rattle.std.proofs.lemmas.Bool.Decides.{nat_tests}
 use Rattle.std.proofs.lemmas.List.{length-append}
@@ -10,9 +10,12 @@ use Rattle.cd_names.specs.declared.names.Name.{Name}
 use Rattle.cd_clause.specs.declared.Clause.{Clause}
 use Rattle.cd_steps.specs.declared.Step.{Step}
 use Rattle.cd_steps.specs.declared.Step.TheVariants.{Input, Resolve, Tidy}
-use Rattle.cd_steps.specs.Steps.{ResolvesBoth, resolvent_of}
-use Rattle.cd_infer.specs.Conclusions.{ResolvesAt, ResolvesFrom}
-use Rattle.cd_infer.specs.declared.Conclusion.{Conclusion}
+use Rattle.cd_steps.specs.Premises.{premises}
+use Rattle.cd_steps.proofs.Registries.{right_steps_stay_right}
+use Rattle.cd_laws.specs.Premises.{input_clause, known_clause, registry_of}
+use Rattle.cd_laws.proofs.Named.{agree_named, known_there}
+use Rattle.cd_propositional.specs.Conclusions.{ResolvesAt, ResolvesFrom}
+use Rattle.cd_propositional.specs.declared.Conclusion.{Conclusion}
 use Rattle.cd_read.specs.declared.problem.Problem.{Problem}
 use Rattle.cd_read.specs.declared.problem.Input.{Input as ProblemInput}
 use Rattle.cd_ledger.specs.declared.Act.{Act}
@@ -99,11 +102,15 @@ done_more : (known more : List Known) (d : Done) → IsDoneRight known d → IsD
 unfolding IsDoneRight
 done_more known more d h = (h.0, concludes_more known more d.task h.0 h.1, h.2)
 
+looked_more : (known more : List Known) (n : Name) (c : Clause) → known_clause (look known n) ≡ Some c → known_clause (look (known ++ more) n) ≡ Some c
+looked_more known more n c is =
+    let found = known_there (look known n) c is in
+    ap known_clause (find_left (λ k. name_eq k.entry.name n) known more found.0 found.1) ∙ ap (λ (d : Clause). Some d) found.2
+
 replayed_more : (p : Problem) (known more : List Known) (current : Option Clause) (s : Step) (c : Clause) → IsReplayed p known current s c → IsReplayed p (known ++ more) current s c
-replayed_more p known more current (Input index) c h = h
-replayed_more p known more current (Resolve pos i neg j subst) c h =
-    (h.0, h.1, find_left (λ k. name_eq k.entry.name pos) known more h.0 h.2, find_left (λ k. name_eq k.entry.name neg) known more h.1 h.3, h.4)
-replayed_more p known more current Tidy c h = h
+replayed_more p known more current s c h =
+    right_steps_stay_right (registry_of p current (λ n. known_clause (look known n))) (registry_of p current (λ n. known_clause (look (known ++ more) n))) s c
+    (agree_named p current (λ n. known_clause (look known n)) (λ n. known_clause (look (known ++ more) n)) (premises s) (looked_more known more)) h
 
 lead_more : (p : Problem) (known more : List Known) (current : Option Clause) (ss : List Step) (c : Clause) → Lead p known current ss c → Lead p (known ++ more) current ss c
 lead_more p known more current [] c h = h
@@ -273,7 +280,7 @@ item_begins o s c item (inr other) = subst (λ (i : Item). BeginsWith s i.steps)
 
 item_leads : (p : Problem) (known : List Known) (o : Origin) (s : Step) (c : Clause) (item : Item) → IsReplayed p known None s c → IsItemOf o s c item → Lead p known None item.steps item.clause
 item_leads p known o s c item replayed (inl here) = subst (λ (i : Item). Lead p known None i.steps i.clause) (sym here.1) (c, replayed, refl)
-item_leads p known o s c item replayed (inr other) = subst (λ (i : Item). Lead p known None i.steps i.clause) (sym other.1.2) (c, replayed, (other.1.0, other.1.1, refl))
+item_leads p known o s c item replayed (inr other) = subst (λ (i : Item). Lead p known None i.steps i.clause) (sym other.1.2) (c, replayed, (other.1.0, record { clauses = c ∷ []; are = refl; right = (refl, other.1.1) }, refl))
 
 items_tally : (t task : Task) (k j : ℕ) (found : List Conclusion) (items : List Item) → AreTaskItems task j found items → tally (λ i. is_conclusion t k i.origin) items ≡ cond (task_eq t task && (nat_le j k && nat_lt k (j + length found))) 1 0
 items_tally t task k j [] items are = ap (λ (l : List Item). tally (λ i. is_conclusion t k i.origin) l) are ∙ none_in_range (task_eq t task) k j
@@ -302,10 +309,12 @@ items_from_start t task k found items are = items_tally t task k 0 found items a
 at_replayed : (p : Problem) (known : List Known) (m n : Name) (x y : Known) (i j : ℕ) (part : List Conclusion) → look known m ≡ Some x → look known n ≡ Some y → ResolvesAt m x.entry.clause n y.entry.clause i j part
     → AllByRecursion (λ c. IsReplayed p known None c.step c.clause) part
 at_replayed p known m n x y i j part at_m at_n (inl r) =
-    let and_parts : ResolvesBoth (Some x.entry.clause) i (Some y.entry.clause) j [] (resolvent_of x.entry.clause i y.entry.clause j) =
-    record { left = x.entry.clause; right = y.entry.clause; has_left = refl; has_right = refl; resolves = record { complementary = r.0.complementary; covers = refl; rest = refl } } in
-    let here : IsReplayed p known None (Resolve m i n j []) (resolvent_of x.entry.clause i y.entry.clause j) = (x, y, at_m, at_n, and_parts) in
-    subst (λ (cs : List Conclusion). AllByRecursion (λ c. IsReplayed p known None c.step c.clause) cs) (sym r.1) (here, tt)
+    let here : IsReplayed p known None (Resolve m i n j []) r.0 = record {
+      clauses = x.entry.clause ∷ y.entry.clause ∷ [];
+      are = ap₂ (λ (a b : Option Known). known_clause a ∷ known_clause b ∷ []) at_m at_n;
+      right = (refl, r.1.follows);
+    } in
+    subst (λ (cs : List Conclusion). AllByRecursion (λ c. IsReplayed p known None c.step c.clause) cs) (sym r.2) (here, tt)
 at_replayed p known m n x y i j part at_m at_n (inr r) = subst (λ (cs : List Conclusion). AllByRecursion (λ c. IsReplayed p known None c.step c.clause) cs) (sym r.1) tt
 
 concluded_replayed : (p : Problem) (known : List Known) (t : Task) (found : List Conclusion) → Concludes known t found → AllByRecursion (λ c. IsReplayed p known None c.step c.clause) found
@@ -390,7 +399,7 @@ inputs_pending p front (i ∷ is) items e are =
     let o : Origin = origin.Input (length front) in
     let from : IsFromTask [] are.0.origin are.0.steps = subst (λ (x : Origin). IsFromTask [] x are.0.steps) (sym (item_origin o (Input (length front)) i.clause are.0 are.2)) tt in
     let later = inputs_pending p (front ++ i ∷ []) is are.1 (e ∙ sym (append_assoc front (i ∷ []) is)) (subst (λ (k : ℕ). AreInputItems k is are.1) n are.3) in
-    subst (AllByRecursion (IsPendingRight p [])) (sym are.4) ((from, item_leads p [] o (Input (length front)) i.clause are.0 (i, here, refl) are.2), later)
+    subst (AllByRecursion (IsPendingRight p [])) (sym are.4) ((from, item_leads p [] o (Input (length front)) i.clause are.0 (record { clauses = i.clause ∷ []; are = ap (λ (o : Option ProblemInput). input_clause o ∷ []) here; right = (refl, refl) }) are.2), later)
 
 counted_start : (p : Problem) (limits : Limits) (s : Local) → IsStart p limits s → IsCounted p s
 counted_start p limits s start = subst (IsCounted p) (sym start.state) (record {

@@ -9,8 +9,8 @@ use Rattle.cd_names.specs.declared.names.Name.{Name}
 use Rattle.cd_steps.specs.declared.Step.{Step}
 use Rattle.cd_steps.specs.declared.Step.TheVariants.{Input}
 use Rattle.cd_symbols.specs.Symbol.{Symbol}
-use Rattle.cd_infer.specs.declared.Conclusion.{Conclusion}
-use Rattle.cd_infer.specs.Conclusions.{PairConcludes}
+use Rattle.cd_propositional.specs.declared.Conclusion.{Conclusion}
+use Rattle.cd_propositional.specs.Conclusions.{PairConcludes}
 use Rattle.cd_read.specs.declared.problem.Problem.{Problem}
 use Rattle.cd_read.specs.Problems.{AtomFormed, ClauseFormed, IsFormed}
 use Rattle.cd_ledger.specs.declared.Act.{Act}
@@ -31,8 +31,19 @@ use Rattle.cd_ledger.specs.Machine.{IsItemOf, AreTaskItems, IsStart, recorded_it
 use Rattle.cd_ledger.specs.World.{World, Run, WorldStep}
 use Rattle.cd_list.proofs.Lists.{all_append, all_remove, all_get, all_find, all_set}
 use Rattle.cd_laws.specs.Formed.{HasFormed, RunsHaveFormed}
-use Rattle.cd_ledger.proofs.TidyItems.{HasNoTerms, item_tidied, tidied_atoms, task_items_all, input_items_all}
+use Rattle.cd_ledger.proofs.TidyItems.{HasNoTerms, HaveNoTerms, item_tidied, tidied_atoms, task_items_all, input_items_all}
 use Rattle.cd_ledger.proofs.FewLemmas.{pair_all}
+
+-- ---- formed clauses have no terms
+
+atom_plain : (symbols : List Symbol) (a : Atom) → AtomFormed symbols a → HasNoTerms a
+atom_plain symbols Truth formed = absurd formed
+atom_plain symbols (Pred n args) formed = formed.4
+atom_plain symbols (Equal s t) formed = absurd formed
+
+pub formed_plain : (symbols : List Symbol) (ls : List Literal) → AllByRecursion (λ l. AtomFormed symbols l.atom) ls → HaveNoTerms ls
+formed_plain symbols [] all = tt
+formed_plain symbols (l ∷ ls) all = (atom_plain symbols l.atom all.0, formed_plain symbols ls all.1)
 
 -- ---- conclusions
 
@@ -41,7 +52,8 @@ AreFormed symbols found = AllByRecursion (λ c. ClauseFormed symbols c.clause) f
 
 pair_formed : (symbols : List Symbol) (m n : Name) (a b : Clause) (found : List Conclusion) → ClauseFormed symbols a → ClauseFormed symbols b → PairConcludes m a n b found → AreFormed symbols found
 unfolding AreFormed
-pair_formed symbols m n a b found fa fb g = pair_all (λ l. AtomFormed symbols l.atom) m n a b found fa fb g
+pair_formed symbols m n a b found fa fb g =
+    pair_all (λ l. AtomFormed symbols l.atom) m n a b found (formed_plain symbols a.literals fa) (formed_plain symbols b.literals fb) fa fb g
 
 look_formed : (symbols : List Symbol) (known : List Known) (n : Name) (x : Known) → AllByRecursion (λ k. ClauseFormed symbols k.entry.clause) known → look known n ≡ Some x → ClauseFormed symbols x.entry.clause
 look_formed symbols known n x all found = all_find (λ k. ClauseFormed symbols k.entry.clause) (λ k. name_eq k.entry.name n) known x all found
@@ -54,16 +66,7 @@ concluded_formed symbols known (Pair a b) found all c =
 
 -- a formed clause is propositional but for the numbers of its predicates, so tidying leaves its atoms alone
 item_formed : (symbols : List Symbol) (o : Origin) (s : Step) (c : Clause) (item : Item) → ClauseFormed symbols c → IsItemOf o s c item → ClauseFormed symbols item.clause
-item_formed symbols o s c item formed is = tidied_atoms (λ l. AtomFormed symbols l.atom) c item.clause (item_tidied o s c item is) (atoms c.literals formed) formed
-  where
-    atom_plain : (a : Atom) → AtomFormed symbols a → HasNoTerms a
-    atom_plain Truth f = absurd f
-    atom_plain (Pred n args) f = f.4
-    atom_plain (Equal s t) f = absurd f
-
-    atoms : (ls : List Literal) → AllByRecursion (λ l. AtomFormed symbols l.atom) ls → AllByRecursion (λ l. HasNoTerms l.atom) ls
-    atoms [] all = tt
-    atoms (l ∷ ls) all = (atom_plain l.atom all.0, atoms ls all.1)
+item_formed symbols o s c item formed is = tidied_atoms (λ l. AtomFormed symbols l.atom) c item.clause (item_tidied o s c item is) (formed_plain symbols c.literals formed) formed
 
 items_formed : (symbols : List Symbol) (t : Task) (found : List Conclusion) (items : List Item) → AreFormed symbols found → AreTaskItems t 0 found items → AllByRecursion (λ i. ClauseFormed symbols i.clause) items
 unfolding AreFormed

@@ -1,3 +1,4 @@
+pub mod Named
 pub mod RightLemmas
 pub mod FormedLemmas
 pub mod ModelsLemmas

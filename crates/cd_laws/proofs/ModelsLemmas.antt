@@ -11,10 +11,9 @@ use Rattle.cd_clause.proofs.TidyLemmas.{tidy_holds, tautology_holds}
 use Rattle.cd_names.specs.declared.names.Name.{Name}
 use Rattle.cd_steps.specs.declared.Step.{Step}
 use Rattle.cd_steps.specs.declared.Step.TheVariants.{Input, Resolve}
-use Rattle.cd_steps.specs.Steps.{resolvent_of}
 use Rattle.cd_steps.proofs.Soundness.{steps_are_sound}
-use Rattle.cd_infer.specs.declared.Conclusion.{Conclusion}
-use Rattle.cd_infer.specs.Conclusions.{ResolvesAt, ResolvesFrom, PairConcludes}
+use Rattle.cd_propositional.specs.declared.Conclusion.{Conclusion}
+use Rattle.cd_propositional.specs.Conclusions.{ResolvesAt, ResolvesFrom, PairConcludes}
 use Rattle.cd_read.specs.declared.problem.Problem.{Problem}
 use Rattle.cd_read.specs.declared.problem.Input.{Input as ProblemInput}
 use Rattle.cd_ledger.specs.declared.Act.{Act}
@@ -71,10 +70,8 @@ record HoldAt (interp : Interp) (s : Local) : Type 0 where
 -- conclusions hold where their premises do
 at_hold : (interp : Interp) (m n : Name) (a b : Clause) (i j : ℕ) (part : List Conclusion) → IsInterp interp → Holds interp a → Holds interp b → ResolvesAt m a n b i j part → AllByRecursion (λ c. Holds interp c.clause) part
 at_hold interp m n a b i j part is ha hb (inl r) =
-    let result : Clause = resolvent_of a i b j in
-    let here : Holds interp result = steps_are_sound interp (Resolve m i n j []) None (Some a) (Some b) result is tt ha hb
-    (record { left = a; right = b; has_left = refl; has_right = refl; resolves = record { complementary = r.0.complementary; covers = refl; rest = refl } }) in
-    subst (λ (cs : List Conclusion). AllByRecursion (λ c. Holds interp c.clause) cs) (sym r.1) (here, tt)
+    let here : Holds interp r.0 = steps_are_sound interp (Resolve m i n j []) None (Some a) (Some b) r.0 is tt ha hb r.1.follows in
+    subst (λ (cs : List Conclusion). AllByRecursion (λ c. Holds interp c.clause) cs) (sym r.2) (here, tt)
 at_hold interp m n a b i j part is ha hb (inr r) = subst (λ (cs : List Conclusion). AllByRecursion (λ c. Holds interp c.clause) cs) (sym r.1) tt
 
 pair_hold : (interp : Interp) (m n : Name) (a b : Clause) (found : List Conclusion) → IsInterp interp → Holds interp a → Holds interp b → PairConcludes m a n b found → AllByRecursion (λ c. Holds interp c.clause) found

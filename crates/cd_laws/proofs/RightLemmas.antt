@@ -1,5 +1,5 @@
 -- In every run each record stands, by right steps, on the inputs and on records before it.
-use Rattle.std.proofs.Common.{◌≡◌, ℕ, zero, suc, ◌+◌, ◌<◌, ◌≤◌, inl, inr, Bool, true, false, cond, List, [], ◌∷◌, ◌++◌, length, map, remove, Option, Some, None, slice_get, refl, sym, ap, ◌∙◌, subst, arith, append_assoc, append-nil}
+use Rattle.std.proofs.Common.{◌≡◌, ℕ, zero, suc, ◌+◌, ◌<◌, ◌≤◌, inl, inr, Bool, true, false, cond, List, [], ◌∷◌, ◌++◌, length, map, remove, Option, Some, None, slice_get, refl, sym, ap, ap₂, ◌∙◌, subst, arith, append_assoc, append-nil}
 use Rattle.std.specs.List.{AllByRecursion, range_with_len}
 use Rattle.std.proofs.lemmas.List.{length-append, length-map}
 use Rattle.std.proofs.lemmas.Option.{slice_get-map, slice_get_within}
@@ -7,13 +7,14 @@ use Rattle.std.specs.Option.{option_map}
 use Rattle.cd_names.proofs.NameLemmas.{equal_names}
 use Rattle.cd_clause.specs.declared.Clause.{Clause}
 use Rattle.cd_clause.specs.declared.Literal.{Literal}
-use Rattle.cd_clause.specs.Clauses.{IsTautology}
+use Rattle.cd_clause.specs.Clauses.{IsTautology, IsTidied}
 use Rattle.cd_names.specs.declared.names.Name.{Name}
 use Rattle.cd_steps.specs.declared.Step.{Step}
 use Rattle.cd_steps.specs.declared.Step.TheVariants.{Input, Resolve, Tidy}
-use Rattle.cd_steps.specs.Steps.{resolvent_of}
-use Rattle.cd_infer.specs.declared.Conclusion.{Conclusion}
-use Rattle.cd_infer.specs.Conclusions.{ResolvesAt, ResolvesFrom, PairConcludes}
+use Rattle.cd_steps.specs.Premises.{premises}
+use Rattle.cd_steps.proofs.Registries.{right_steps_stay_right}
+use Rattle.cd_propositional.specs.declared.Conclusion.{Conclusion}
+use Rattle.cd_propositional.specs.Conclusions.{ResolvesAt, ResolvesFrom, PairConcludes}
 use Rattle.cd_read.specs.declared.problem.Problem.{Problem}
 use Rattle.cd_read.specs.declared.problem.Input.{Input as ProblemInput}
 use Rattle.cd_read.specs.Problems.{ArePropositional}
@@ -44,17 +45,27 @@ use Rattle.cd_ledger.proofs.Empty.{has_empty-push}
 use Rattle.cd_ledger.proofs.TidyItems.{item_candidate, task_items_all, input_items_all}
 use Rattle.cd_ledger.proofs.LeanLemmas.{lean, lean_short}
 use Rattle.cd_ledger.proofs.FewLemmas.{each_gathered, concluded_propositional}
-use Rattle.cd_laws.specs.Right.{record_of, IsNamed, IsStepRight, AreStepsRight, IsRecordRight, AreRecordsRight, EndsRight, IsRight, RunsAreRight}
+use Rattle.cd_laws.specs.Premises.{input_clause, registry_of}
+use Rattle.cd_laws.proofs.Named.{agree_named, has_record, clause_named}
+use Rattle.cd_laws.specs.Right.{record_of, IsNamed, named_clause, IsStepRight, AreStepsRight, IsRecordRight, AreRecordsRight, EndsRight, IsRight, RunsAreRight}
 
 -- ---- what is right stays right as records come
 
 named_more : (me : ℕ) (before more : List Record) (n : Name) (r : Record) → IsNamed me before n r → IsNamed me (before ++ more) n r
 named_more me before more n r h = record { peer = h.peer; there = get_left before more n.seq r h.there }
 
+clause_more : (me : ℕ) (before more : List Record) (n : Name) (c : Clause) → named_clause me before n ≡ Some c → named_clause me (before ++ more) n ≡ Some c
+clause_more me before more n c is =
+    let found = has_record me before n c is in
+    clause_named me (before ++ more) n found.entry (named_more me before more n found.entry found.named) ∙ ap (λ (d : Clause). Some d) found.clause
+
 step_more : (p : Problem) (me : ℕ) (before more : List Record) (current : Option Clause) (s : Step) (c : Clause) → IsStepRight p me before current s c → IsStepRight p me (before ++ more) current s c
-step_more p me before more current (Input index) c h = h
-step_more p me before more current (Resolve pos i neg j subst) c h = (h.0, h.1, named_more me before more pos h.0 h.2, named_more me before more neg h.1 h.3, h.4, h.5, h.6)
-step_more p me before more current Tidy c h = h
+step_more p me before more current s c h = record {
+  over = right_steps_stay_right (registry_of p current (named_clause me before)) (registry_of p current (named_clause me (before ++ more))) s c
+      (agree_named p current (named_clause me before) (named_clause me (before ++ more)) (premises s) (clause_more me before more)) h.over;
+  thin = h.thin;
+  places = h.places;
+}
 
 steps_more : (p : Problem) (me : ℕ) (before more : List Record) (current : Option Clause) (ss : List Step) (c : Clause) → AreStepsRight p me before current ss c → AreStepsRight p me (before ++ more) current ss c
 steps_more p me before more current [] c h = h
@@ -101,17 +112,16 @@ at_right : (p : Problem) (me : ℕ) (records : List Record) (m n : Name) (a b : 
     → ResolvesAt m a.clause n b.clause i j part → AllByRecursion (IsConclusionRight p me records) part
 unfolding IsConclusionRight
 at_right p me records m n a b i j part na nb ua ub (inl r) =
-    let c = r.0.complementary in
-    let here : IsStepRight p me records None (Resolve m i n j []) (resolvent_of a.clause i b.clause j) = (
-      a,
-      b,
-      na,
-      nb,
-      record { left = a.clause; right = b.clause; has_left = refl; has_right = refl; resolves = record { complementary = c; covers = refl; rest = refl } },
-      usable_place a.clause i _ ua c.positive,
-      usable_place b.clause j _ ub c.negative,
-    ) in
-    subst (λ (cs : List Conclusion). AllByRecursion (λ x. IsStepRight p me records None x.step x.clause) cs) (sym r.1) (here, tt)
+    let here : IsStepRight p me records None (Resolve m i n j []) r.0 = record {
+      over = record {
+        clauses = a.clause ∷ b.clause ∷ [];
+        are = ap₂ (λ (x y : Option Clause). x ∷ y ∷ []) (clause_named me records m a na) (clause_named me records n b nb);
+        right = (refl, r.1.follows);
+      };
+      thin = tt;
+      places = (usable_place a.clause i _ ua r.1.in_first.there, (usable_place b.clause j _ ub r.1.in_second.there, tt));
+    } in
+    subst (λ (cs : List Conclusion). AllByRecursion (λ x. IsStepRight p me records None x.step x.clause) cs) (sym r.2) (here, tt)
 at_right p me records m n a b i j part na nb ua ub (inr r) = subst (λ (cs : List Conclusion). AllByRecursion (λ x. IsStepRight p me records None x.step x.clause) cs) (sym r.1) tt
 
 pair_right : (p : Problem) (me : ℕ) (records : List Record) (m n : Name) (a b : Record) (found : List Conclusion) → IsNamed me records m a → IsNamed me records n b → IsUsable a.clause → IsUsable b.clause
@@ -130,11 +140,18 @@ concluded_right p me known (Pair a b) found all usable c =
     pair_right p me (map record_of known) a b c.0.entry c.1.entry found (found_named p me known a c.0 all c.2) (found_named p me known b c.1 all c.3)
     (usable_at known a c.0 usable c.2) (usable_at known b c.1 usable c.3) c.4
 
+tidied_right : (p : Problem) (me : ℕ) (records : List Record) (c d : Clause) → IsTidied c d → IsStepRight p me records (Some c) Tidy d
+tidied_right p me records c d tidied = record { over = record { clauses = c ∷ []; are = refl; right = (refl, tidied) }; thin = tt; places = tt }
+
+input_right : (p : Problem) (me : ℕ) (records : List Record) (index : ℕ) (i : ProblemInput) → slice_get p.inputs index ≡ Some i → IsStepRight p me records None (Input index) i.clause
+input_right p me records index i there =
+    record { over = record { clauses = i.clause ∷ []; are = ap (λ (o : Option ProblemInput). input_clause o ∷ []) there; right = (refl, refl) }; thin = tt; places = tt }
+
 -- the steps of an item are right where its first is
 item_right : (p : Problem) (me : ℕ) (records : List Record) (o : Origin) (s : Step) (c : Clause) (item : Item) → IsStepRight p me records None s c → IsItemOf o s c item → AreStepsRight p me records None item.steps item.clause
 item_right p me records o s c item right (inl here) = subst (λ (i : Item). AreStepsRight p me records None i.steps i.clause) (sym here.1) (c, right, refl)
 item_right p me records o s c item right (inr other) =
-    subst (λ (i : Item). AreStepsRight p me records None i.steps i.clause) (sym other.1.2) (c, right, (other.1.0, other.1.1, refl))
+    subst (λ (i : Item). AreStepsRight p me records None i.steps i.clause) (sym other.1.2) (c, right, (other.1.0, tidied_right p me records c other.1.0 other.1.1, refl))
 
 items_right : (p : Problem) (me : ℕ) (records : List Record) (t : Task) (k : ℕ) (found : List Conclusion) (items : List Item) → AllByRecursion (IsConclusionRight p me records) found → AreTaskItems t k found items
     → AllByRecursion (λ i. AreStepsRight p me records None i.steps i.clause) items
@@ -161,7 +178,7 @@ inputs_right p me front (i ∷ is) items e are =
     let n : length front + 1 ≡ length (front ++ i ∷ []) = sym (length-append front (i ∷ [])) in
     let later = subst (λ (k : ℕ). AreInputItems k is are.1) n are.3 in
     subst (AllByRecursion (λ x. AreStepsRight p me [] None x.steps x.clause)) (sym are.4) (
-      item_right p me [] (origin.Input (length front)) (Input (length front)) i.clause are.0 (i, here, refl) are.2,
+      item_right p me [] (origin.Input (length front)) (Input (length front)) i.clause are.0 (input_right p me [] (length front) i here) are.2,
       inputs_right p me (front ++ i ∷ []) is are.1 (e ∙ sym (append_assoc front (i ∷ []) is)) later,
     )
 

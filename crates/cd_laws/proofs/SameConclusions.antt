@@ -1,11 +1,13 @@
 -- A task has one list of conclusions.
-use Rattle.std.proofs.Common.{◌≡◌, ℕ, inl, inr, List, [], ◌∷◌, ◌++◌, length, sym, ap, ◌∙◌, subst}
+use Rattle.std.proofs.Common.{◌≡◌, ℕ, inl, inr, List, [], ◌∷◌, ◌++◌, length, Some, None, sym, ap, ◌∙◌, subst}
 use Rattle.std.specs.List.{range_with_len}
 use Rattle.cd_clause.specs.declared.Clause.{Clause}
 use Rattle.cd_names.specs.declared.names.Name.{Name}
-use Rattle.cd_infer.specs.declared.Conclusion.{Conclusion}
+use Rattle.cd_propositional.specs.declared.Conclusion.{Conclusion}
 use Rattle.cd_list.specs.Lists.{Gathered}
-use Rattle.cd_infer.specs.Conclusions.{ResolvesAt, ResolvesFrom, PairConcludes}
+use Rattle.cd_steps.specs.declared.Step.TheVariants.{Resolve}
+use Rattle.cd_steps.proofs.Unique.{steps_give_one}
+use Rattle.cd_propositional.specs.Conclusions.{resolved, ResolvesAt, ResolvesFrom, PairConcludes}
 use Rattle.cd_ledger.specs.declared.Known.{Known}
 use Rattle.cd_ledger.specs.declared.Task.{Task}
 use Rattle.cd_ledger.specs.declared.Task.TheVariants.{Solo, Pair}
@@ -24,9 +26,11 @@ gathered_same R (k ∷ ks) xs ys single g h =
 
 at_same : (m n : Name) (a b : Clause) (i : ℕ) → IsSingle (ResolvesAt m a n b i)
 unfolding IsSingle
-at_same m n a b i j part other (inl r) (inl q) = r.1 ∙ sym q.1
-at_same m n a b i j part other (inl r) (inr q) = absurd (q.0 r.0)
-at_same m n a b i j part other (inr r) (inl q) = absurd (r.0 q.0)
+at_same m n a b i j part other (inl r) (inl q) =
+    let same : r.0 ≡ q.0 = steps_give_one (Resolve m i n j []) None (Some a) (Some b) r.0 q.0 r.1.follows q.1.follows in
+    r.2 ∙ ap (λ (c : Clause). resolved m i n j c ∷ []) same ∙ sym q.2
+at_same m n a b i j part other (inl r) (inr q) = absurd (q.0 r.0 r.1)
+at_same m n a b i j part other (inr r) (inl q) = absurd (r.0 q.0 q.1)
 at_same m n a b i j part other (inr r) (inr q) = r.1 ∙ sym q.1
 
 from_same : (m n : Name) (a b : Clause) → IsSingle (ResolvesFrom m a n b)

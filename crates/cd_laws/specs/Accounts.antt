@@ -6,11 +6,9 @@ use Rattle.cd_clause.specs.declared.Clause.{Clause}
 use Rattle.cd_clause.specs.Clauses.{IsTautology}
 use Rattle.cd_names.specs.declared.names.Name.{Name}
 use Rattle.cd_steps.specs.declared.Step.{Step}
-use Rattle.cd_steps.specs.declared.Step.TheVariants.{Input, Resolve, Tidy}
-use Rattle.cd_steps.specs.Steps.{StepOk}
-use Rattle.cd_infer.specs.declared.Conclusion.{Conclusion}
+use Rattle.cd_steps.specs.Premises.{IsRightOver}
+use Rattle.cd_propositional.specs.declared.Conclusion.{Conclusion}
 use Rattle.cd_read.specs.declared.problem.Problem.{Problem}
-use Rattle.cd_read.specs.declared.problem.Input.{Input as ProblemInput}
 use Rattle.cd_ledger.specs.declared.Event.{Event}
 use Rattle.cd_ledger.specs.declared.Item.{Item}
 use Rattle.cd_ledger.specs.declared.Known.{Known}
@@ -29,6 +27,7 @@ use Rattle.cd_list.specs.Lists.{tally}
 use Rattle.cd_ledger.specs.Machine.{Concludes, Subsumes}
 use Rattle.cd_ledger.specs.World.{World, Runs}
 use Rattle.cd_laws.specs.Models.{is_live_at}
+use Rattle.cd_laws.specs.Premises.{known_clause, registry_of}
 
 abbrev pub task_eq : Task → Task → Bool
 task_eq (Solo a) (Solo b) = name_eq a b
@@ -53,10 +52,7 @@ BeginsWith s (t ∷ ts) = t ≡ s
 
 -- a step is right with the clauses that are known under its names, and the clause before it
 abbrev pub IsReplayed : Problem → List Known → Option Clause → Step → Clause → Type 0
-IsReplayed p known current (Input index) c = (i : ProblemInput) × (slice_get p.inputs index ≡ Some i) × StepOk (Input index) None (Some i.clause) None c
-IsReplayed p known current (Resolve pos i neg j subst) c =
-    (x : Known) × (y : Known) × (look known pos ≡ Some x) × (look known neg ≡ Some y) × StepOk (Resolve pos i neg j subst) None (Some x.entry.clause) (Some y.entry.clause) c
-IsReplayed p known current Tidy c = StepOk Tidy current None None c
+IsReplayed p known current step c = IsRightOver (registry_of p current (λ n. known_clause (look known n))) step c
 
 -- the steps lead to the clause
 abbrev pub Lead : Problem → List Known → Option Clause → List Step → Clause → Type 0

@@ -1,3 +1,4 @@
+pub mod Premises
 pub mod Right
 pub mod Formed
 pub mod Models

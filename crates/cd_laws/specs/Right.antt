@@ -1,15 +1,14 @@
 -- Right records: each stands on the inputs and on records before it, by right steps.
--- Beyond the headline: no clause of `prove` reaches IsNamed, IsStepRight, AreStepsRight, IsRecordRight,
---   AreRecordsRight, EndsRight, IsRight, RunsAreRight.
-use Rattle.std.specs.Prelude.{◌≡◌, ℕ, ◌<◌, ◌≤◌, true, false, List, [], ◌∷◌, ◌++◌, length, map, Option, None, Some, slice_get}
+-- Beyond the headline: no clause of `prove` reaches IsNamed, record_clause, named_clause, IsThin, IsStepRight,
+--   AreStepsRight, IsRecordRight, AreRecordsRight, EndsRight, IsRight, RunsAreRight.
+use Rattle.std.specs.Prelude.{◌≡◌, ℕ, ◌<◌, ◌≤◌, ◌==◌, true, false, if◌then◌else◌, List, [], ◌∷◌, ◌++◌, length, map, Option, None, Some, slice_get}
 use Rattle.std.specs.List.{AllByRecursion}
 use Rattle.cd_clause.specs.declared.Clause.{Clause}
 use Rattle.cd_names.specs.declared.names.Name.{Name}
 use Rattle.cd_steps.specs.declared.Step.{Step}
-use Rattle.cd_steps.specs.declared.Step.TheVariants.{Input, Resolve, Tidy}
-use Rattle.cd_steps.specs.Steps.{StepOk}
+use Rattle.cd_steps.specs.declared.Step.TheVariants.{Input, Copy, Resolve, Factor, Refl, EqFac, Para, Rewrite, Tidy}
+use Rattle.cd_steps.specs.Premises.{numbers_of, IsRightOver}
 use Rattle.cd_read.specs.declared.problem.Problem.{Problem}
-use Rattle.cd_read.specs.declared.problem.Input.{Input as ProblemInput}
 use Rattle.cd_read.specs.Problems.{ArePropositional}
 use Rattle.cd_ledger.specs.declared.Event.{Event}
 use Rattle.cd_ledger.specs.declared.Known.{Known}
@@ -22,6 +21,7 @@ use Rattle.cd_ledger.specs.Names.{cites_of}
 use Rattle.cd_ledger.specs.Lean.{IsCandidate, IsUsable}
 use Rattle.cd_ledger.specs.Machine.{is_empty}
 use Rattle.cd_ledger.specs.World.{World, Runs, has_empty}
+use Rattle.cd_laws.specs.Premises.{registry_of}
 
 abbrev pub record_of : Known → Record
 record_of k = k.entry
@@ -35,12 +35,31 @@ pub record IsNamed (me : ℕ) (before : List Record) (n : Name) (r : Record) : T
   pub peer : n.peer ≡ me
   pub there : slice_get before n.seq ≡ Some r
 
+abbrev pub record_clause : Option Record → Option Clause
+record_clause None = None
+record_clause (Some r) = Some r.clause
+
+-- the clause of the record of a name
+abbrev pub named_clause : ℕ → List Record → Name → Option Clause
+named_clause me before n = if n.peer == me then record_clause (slice_get before n.seq) else None
+
+-- the steps that peers make so far
+abbrev pub IsThin : Step → Type 0
+IsThin (Input index) = Unit {0}
+IsThin (Copy of) = ⊥
+IsThin (Resolve pos i neg j subst) = Unit {0}
+IsThin (Factor of i j subst) = ⊥
+IsThin (Refl of i subst) = ⊥
+IsThin (EqFac of i s j z subst) = ⊥
+IsThin (Para giver i s taker j at subst) = ⊥
+IsThin (Rewrite by s j at subst) = ⊥
+IsThin Tidy = Unit {0}
+
 -- a step is right over the inputs, these records and the clause before it, and gives the clause
-abbrev pub IsStepRight : Problem → ℕ → List Record → Option Clause → Step → Clause → Type 0
-IsStepRight p me before current (Input index) c = (i : ProblemInput) × (slice_get p.inputs index ≡ Some i) × StepOk (Input index) None (Some i.clause) None c
-IsStepRight p me before current (Resolve pos i neg j subst) c =
-    (a : Record) × (b : Record) × IsNamed me before pos a × IsNamed me before neg b × StepOk (Resolve pos i neg j subst) None (Some a.clause) (Some b.clause) c × (i < 65536) × (j < 65536)
-IsStepRight p me before current Tidy c = StepOk Tidy current None None c
+pub record IsStepRight (p : Problem) (me : ℕ) (before : List Record) (current : Option Clause) (step : Step) (c : Clause) : Type 0 where
+  pub over : IsRightOver (registry_of p current (named_clause me before)) step c
+  pub thin : IsThin step
+  pub places : AllByRecursion (λ n. n < 65536) (numbers_of step)
 
 -- the steps are right one after another, behind the clause before them, and lead to the clause
 abbrev pub AreStepsRight : Problem → ℕ → List Record → Option Clause → List Step → Clause → Type 0

@@ -10,10 +10,12 @@ use Rattle.cd_clause.specs.declared.Atom.TheVariants.{Truth, Pred, Equal}
 use Rattle.cd_clause.specs.declared.Literal.{Literal}
 use Rattle.cd_clause.specs.declared.Clause.{Clause}
 use Rattle.cd_names.specs.declared.names.Name.{Name}
-use Rattle.cd_infer.specs.declared.Conclusion.{Conclusion}
-use Rattle.cd_infer.specs.Eligible.{predicate_of, same_predicate, literal_greater_by_predicate, IsEligibleByPredicate}
+use Rattle.cd_propositional.specs.declared.Conclusion.{Conclusion}
+use Rattle.cd_propositional.specs.Eligible.{predicate_of, same_predicate, literal_greater_by_predicate, IsEligibleByPredicate}
 use Rattle.cd_list.specs.Lists.{Gathered}
-use Rattle.cd_infer.specs.Conclusions.{ResolvesAt, ResolvesFrom, PairConcludes}
+use Rattle.cd_ledger.proofs.TidyItems.{HaveNoTerms, plain}
+use Rattle.cd_ledger.proofs.Resolvents.{resolvent_plain}
+use Rattle.cd_propositional.specs.Conclusions.{ResolvesAt, ResolvesFrom, PairConcludes}
 use Rattle.cd_clause.specs.Propositional.{IsPropositionalAtom, IsPropositional}
 use Rattle.cd_ledger.specs.declared.Known.{Known}
 use Rattle.cd_ledger.specs.declared.Task.{Task}
@@ -88,11 +90,11 @@ one_eligible c i j is lean e f =
 -- ---- conclusions
 
 at_few : (m n : Name) (a b : Clause) (i j : ℕ) (part : List Conclusion) → ResolvesAt m a n b i j part → length part ≤ 1
-at_few m n a b i j part (inl r) = subst (λ (l : List Conclusion). length l ≤ 1) (sym r.1) (omega arith)
+at_few m n a b i j part (inl r) = subst (λ (l : List Conclusion). length l ≤ 1) (sym r.2) (omega arith)
 at_few m n a b i j part (inr r) = subst (λ (l : List Conclusion). length l ≤ 1) (sym r.1) (omega arith)
 
 at_eligible : (m n : Name) (a b : Clause) (i j : ℕ) (part : List Conclusion) → ResolvesAt m a n b i j part → part ≢ [] → IsEligibleByPredicate a i × IsEligibleByPredicate b j
-at_eligible m n a b i j part (inl r) some = (r.0.in_first, r.0.in_second)
+at_eligible m n a b i j part (inl r) some = (r.1.in_first, r.1.in_second)
 at_eligible m n a b i j part (inr r) some = absurd (some r.1)
 
 -- what is gathered and isn't empty comes from some place
@@ -118,16 +120,18 @@ pair_few m n a b found is_a lean_a is_b lean_b g =
     (λ i q r. from_few m n a b i q is_b lean_b r) g
 
 -- what holds of each literal of both clauses holds of each literal of their conclusions
-pub pair_all : (P : Literal → Type 0) (m n : Name) (a b : Clause) (found : List Conclusion) → AllByRecursion P a.literals → AllByRecursion P b.literals → PairConcludes m a n b found
-    → AllByRecursion (λ c. AllByRecursion P c.clause.literals) found
-pair_all P m n a b found all_a all_b g =
+pub pair_all : (P : Literal → Type 0) (m n : Name) (a b : Clause) (found : List Conclusion) → HaveNoTerms a.literals → HaveNoTerms b.literals → AllByRecursion P a.literals → AllByRecursion P b.literals
+    → PairConcludes m a n b found → AllByRecursion (λ c. AllByRecursion P c.clause.literals) found
+pair_all P m n a b found none_a none_b all_a all_b g =
     each_gathered (λ c. AllByRecursion P c.clause.literals) (ResolvesFrom m a n b) (range_with_len 0 (length a.literals)) found (λ i part r.
     each_gathered (λ c. AllByRecursion P c.clause.literals) (ResolvesAt m a n b i) (range_with_len 0 (length b.literals)) part (λ j q s. at_all i j q s) r) g
   where
     at_all : (i j : ℕ) (part : List Conclusion) → ResolvesAt m a n b i j part → AllByRecursion (λ c. AllByRecursion P c.clause.literals) part
     at_all i j part (inl r) =
-        subst (λ (cs : List Conclusion). AllByRecursion (λ c. AllByRecursion P c.clause.literals) cs) (sym r.1)
-        (all_append P (remove a.literals i) (remove b.literals j) (all_remove P a.literals i all_a) (all_remove P b.literals j all_b), tt)
+        let all : AllByRecursion P (remove a.literals i ++ remove b.literals j) =
+        all_append P (remove a.literals i) (remove b.literals j) (all_remove P a.literals i all_a) (all_remove P b.literals j all_b) in
+        subst (λ (cs : List Conclusion). AllByRecursion (λ c. AllByRecursion P c.clause.literals) cs) (sym r.2)
+        (subst (AllByRecursion P) (sym (resolvent_plain a b r.0 i j [] none_a none_b r.1.follows)) all, tt)
     at_all i j part (inr r) = subst (λ (cs : List Conclusion). AllByRecursion (λ c. AllByRecursion P c.clause.literals) cs) (sym r.1) tt
 
 -- ---- tasks
@@ -148,4 +152,4 @@ concluded_propositional known (Solo a) found all c = subst (λ (l : List Conclus
 concluded_propositional known (Pair a b) found all c =
     let x = look_usable known a c.0 all c.2 in
     let y = look_usable known b c.1 all c.3 in
-    pair_all (λ l. IsPropositionalAtom l.atom) a b c.0.entry.clause c.1.entry.clause found x.propositional y.propositional c.4
+    pair_all (λ l. IsPropositionalAtom l.atom) a b c.0.entry.clause c.1.entry.clause found (plain c.0.entry.clause.literals x.propositional) (plain c.1.entry.clause.literals y.propositional) x.propositional y.propositional c.4

@@ -10,7 +10,7 @@ use Rattle.cd_clause.specs.declared.Literal.{Literal}
 use Rattle.cd_clause.specs.declared.Clause.{Clause}
 use Rattle.cd_clause.specs.Clauses.{IsSameLiteral, AreOpposite, IsTautology, HasNoRepeat}
 use Rattle.cd_list.specs.Lists.{Among, tally, AllPairs}
-use Rattle.cd_infer.specs.Eligible.{predicate_of, same_predicate}
+use Rattle.cd_propositional.specs.Eligible.{predicate_of, same_predicate}
 use Rattle.cd_clause.specs.Propositional.{IsPropositionalAtom, IsPropositional}
 use Rattle.cd_ledger.specs.Lean.{has_predicate, IsLean}
 use Rattle.cd_list.proofs.Tally.{tally_fails}

@@ -1,4 +1,5 @@
 pub mod Empty
 pub mod TidyItems
+pub mod Resolvents
 pub mod LeanLemmas
 pub mod FewLemmas

@@ -12,7 +12,7 @@ use Rattle.cd_clause.specs.Clauses.{atom_changed, literal_changed, literals_chan
 use Rattle.cd_list.specs.Lists.{Among, AllPairs}
 use Rattle.cd_steps.specs.declared.Step.{Step}
 use Rattle.cd_steps.specs.declared.Step.TheVariants as step
-use Rattle.cd_infer.specs.declared.Conclusion.{Conclusion}
+use Rattle.cd_propositional.specs.declared.Conclusion.{Conclusion}
 use Rattle.cd_read.specs.declared.problem.Input.{Input as ProblemInput}
 use Rattle.cd_clause.specs.Propositional.{IsPropositionalAtom, IsPropositional}
 use Rattle.cd_ledger.specs.declared.Item.{Item}
@@ -96,7 +96,7 @@ plain_atom Truth is = absurd is
 plain_atom (Pred n args) is = is.1
 plain_atom (Equal s t) is = absurd is
 
-plain : (ls : List Literal) → AllByRecursion (λ l. IsPropositionalAtom l.atom) ls → HaveNoTerms ls
+pub plain : (ls : List Literal) → AllByRecursion (λ l. IsPropositionalAtom l.atom) ls → HaveNoTerms ls
 plain [] all = tt
 plain (l ∷ ls) all = (plain_atom l.atom all.0, plain ls all.1)
 

@@ -4,7 +4,7 @@ use Rattle.std.specs.Prelude.{ℕ, ◌≤◌, Bool, Some}
 use Rattle.cd_clause.specs.declared.Literal.{Literal}
 use Rattle.cd_clause.specs.declared.Clause.{Clause}
 use Rattle.cd_clause.specs.Clauses.{HasNoRepeat}
-use Rattle.cd_infer.specs.Eligible.{predicate_of, same_predicate}
+use Rattle.cd_propositional.specs.Eligible.{predicate_of, same_predicate}
 use Rattle.cd_clause.specs.Propositional.{IsPropositional}
 use Rattle.cd_list.specs.Lists.{tally}
 

@@ -11,8 +11,8 @@ use Rattle.cd_names.specs.declared.names.Name.{Name}
 use Rattle.cd_steps.specs.declared.Step.{Step}
 use Rattle.cd_steps.specs.declared.Step.TheVariants.{Tidy}
 use Rattle.cd_steps.specs.declared.Step.TheVariants as step
-use Rattle.cd_infer.specs.declared.Conclusion.{Conclusion}
-use Rattle.cd_infer.specs.Conclusions.{SoloConcludes, PairConcludes}
+use Rattle.cd_propositional.specs.declared.Conclusion.{Conclusion}
+use Rattle.cd_propositional.specs.Conclusions.{SoloConcludes, PairConcludes}
 use Rattle.cd_read.specs.declared.problem.Problem.{Problem}
 use Rattle.cd_read.specs.declared.problem.Input.{Input}
 use Rattle.cd_ledger.specs.declared.Task.{Task}

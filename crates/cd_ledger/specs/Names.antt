@@ -1,17 +1,11 @@
--- The names that steps mention, and what is known under a name.
-use Rattle.std.specs.Prelude.{List, [], ◌∷◌, Option, find}
+-- What a record cites, and what is known under a name.
+use Rattle.std.specs.Prelude.{List, [], Option, find}
 use Rattle.std.specs.List.{flat_map}
 use Rattle.cd_names.specs.declared.names.Name.{Name}
 use Rattle.cd_names.specs.Names.{name_eq, each_once}
 use Rattle.cd_steps.specs.declared.Step.{Step}
-use Rattle.cd_steps.specs.declared.Step.TheVariants.{Input, Resolve, Tidy}
+use Rattle.cd_steps.specs.Premises.{names_in}
 use Rattle.cd_ledger.specs.declared.Known.{Known}
-
--- the names that a step mentions, in the order of its fields
-abbrev pub names_in : Step → List Name
-names_in (Input index) = []
-names_in (Resolve pos i neg j subst) = pos ∷ neg ∷ []
-names_in Tidy = []
 
 -- what a record cites: the names in its steps, each once, in the order of first mention
 abbrev pub cites_of : List Step → List Name

@@ -1,5 +1,5 @@
 -- Lists that are told and grow.
-use Rattle.std.proofs.Common.{◌≡◌, List, [], ◌++◌, Option, None, Some, sym, ap, ◌∙◌, append_assoc, append-nil}
+use Rattle.std.proofs.Common.{List, [], ◌++◌, Option, None, Some, sym, ap, ◌∙◌, append_assoc, append-nil}
 use Rattle.cd_outside.specs.Outside.{Gives, GivesWhereTold}
 
 pub gives_none : {X : Type 0} (a : Option (List X)) → Gives a a []

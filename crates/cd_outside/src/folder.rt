@@ -56,6 +56,7 @@ impl<O: Opener> Library for FolderOver<O> {
         ensures front { OnOk result (AppendsFirst (O.holds self.old path.now) cap into.old into.new) }
         ensures nothing { OnErr result (Gives {X = List ℕ × List ℕ} None None []) }
         ensures unchanged { OnErr result (into.new ≡ into.old) }
+        ensures stays { (p : List ℕ) → O.holds self.new p ≡ O.holds self.old p }
 
         ensures exact { O.failed self.new ≡ faults_after (O.failed self.old) result }
     {
@@ -79,6 +80,7 @@ fn read_file<O: Opener>(
 ) -> Result<(), FetchFault>
     ensures capped { (more : List ℕ) × (into.new ≡ into.old ++ more) × (length more ≤ cap) }
     ensures front { OnOk result (AppendsFirst (O.holds opener.old path.now) cap into.old into.new) }
+    ensures stays { (p : List ℕ) → O.holds opener.new p ≡ O.holds opener.old p }
     ensures later { O.failed opener.old ≤ O.failed opener.new }
     ensures exact { O.failed opener.new ≡ faults_after (O.failed opener.old) result }
 {
@@ -100,6 +102,7 @@ fn read_front<O: Opener>(
 ) -> Result<(), FetchFault>
     ensures capped { (more : List ℕ) × (into.new ≡ into.old ++ more) × (length more ≤ cap) }
     ensures front { OnOk result (AppendsFirst (O.left file.old) cap into.old into.new) }
+    ensures stays { (p : List ℕ) → O.holds opener.new p ≡ O.holds opener.old p }
     ensures later { O.failed opener.old ≤ O.failed opener.new }
     ensures exact { O.failed opener.new ≡ faults_after (O.failed opener.old) result }
 {

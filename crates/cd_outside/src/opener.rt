@@ -31,6 +31,7 @@ pub trait Opener {
 
     fn open(&mut self, path: &str) -> Result<Self::File, CallFailed>
         ensures file { IfOk result (λ file. Keeps (holds self.old path.now) (left file)) }
+        ensures stays { (p : List ℕ) → holds self.new p ≡ holds self.old p }
         ensures later { failed self.old ≤ failed self.new }
         ensures count { failed self.new ≡ count_after (failed self.old) result };
 
@@ -38,6 +39,7 @@ pub trait Opener {
     fn read(&mut self, file: &mut Self::File, into: &mut [u8]) -> Result<usize, CallFailed>
         ensures bound { ReadsAtMost result into.new }
         ensures bytes { ReadConsumes (left file.old) (left file.new) result into.new }
+        ensures stays { (p : List ℕ) → holds self.new p ≡ holds self.old p }
         ensures later { failed self.old ≤ failed self.new }
         ensures count { failed self.new ≡ count_after (failed self.old) result };
 }

@@ -6,7 +6,7 @@ use Rattle.std.proofs.lemmas.Bool.{lt-leb}
 use Rattle.cd_clause.specs.declared.Clause.{Clause}
 use Rattle.cd_names.specs.declared.names.Name.{Name}
 use Rattle.cd_steps.specs.declared.Step.TheVariants.{Input}
-use Rattle.cd_infer.specs.declared.Conclusion.{Conclusion}
+use Rattle.cd_propositional.specs.declared.Conclusion.{Conclusion}
 use Rattle.cd_read.specs.declared.problem.Input.{Input as ProblemInput}
 use Rattle.cd_ledger.specs.declared.Act.TheVariants.{Keep, Work}
 use Rattle.cd_ledger.specs.declared.Item.{Item}

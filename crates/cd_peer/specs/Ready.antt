@@ -3,7 +3,7 @@
 use Rattle.std.specs.Prelude.{◌≡◌, ℕ, ◌+◌, ◌-◌, ◌^◌, ◌<◌, ◌≤◌, if◌then◌else◌, List, [], ◌∷◌, ◌++◌, length, map, None, Some, slice_get}
 use Rattle.std.specs.List.{AllByRecursion}
 use Rattle.cd_names.specs.declared.names.Name.{Name}
-use Rattle.cd_infer.specs.declared.Conclusion.{Conclusion}
+use Rattle.cd_propositional.specs.declared.Conclusion.{Conclusion}
 use Rattle.cd_ledger.specs.declared.Item.{Item}
 use Rattle.cd_ledger.specs.declared.Known.{Known}
 use Rattle.cd_ledger.specs.declared.Outcome.TheVariants.{Named}

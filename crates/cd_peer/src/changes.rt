@@ -1,19 +1,20 @@
 //! The parts of an event: what is added to the lists of a state.
 ghost use Rattle.std.specs.Prelude.{◌≡◌, ◌<◌, ◌≤◌, ◌^◌, ◌++◌, ◌∷◌, [], length, map, slice_get, IfOk, OnOk, Some, None, if◌then◌else◌};
-ghost use Rattle.std.specs.List.{AllByRecursion, list_any};
-ghost use Rattle.cd_ledger.specs.Names.{cites_of, names_in, look};
+ghost use Rattle.std.specs.List.{AllByRecursion, list_any, flat_map};
+ghost use Rattle.cd_ledger.specs.Names.{cites_of, look};
+ghost use Rattle.cd_steps.specs.Premises.{names_in, names_of, listed};
 ghost use Rattle.cd_names.specs.Names.{each_once, add_once, name_eq};
 ghost use Rattle.cd_ledger.specs.Machine.{IsItemOf, AreInputItems, tasks_of, name_of, recorded_item, settlement, is_empty, Concludes};
 ghost use Rattle.cd_peer.specs.Ready.{AreNumbered, IsNumbered, IsTaskKnown, AddsItems};
 ghost use Rattle.cd_ledger.specs.Lean.{IsUsable};
 
 use cd_clause::{Clause, is_tidied, tidy};
-use cd_infer::{Conclusion, Conclusions, pair, solo};
 use cd_ledger::{Item, Known, Local, Origin, Outcome, Record, Settled, Status, Task, Verdict};
 use cd_list::{Copied, Queue, Sequence};
 use cd_names::{Name, Names};
+use cd_propositional::{Conclusion, Conclusions, pair, solo};
 use cd_read::Input;
-use cd_steps::Step;
+use cd_steps::{Premise, Step};
 use std::alloc::{AllocError, Global};
 
 /// The inputs as items, in their order.
@@ -105,19 +106,20 @@ pub fn cites_of(alloc: Global, steps: &[Step]) -> Result<Names, AllocError>
 fn add_names(names: &mut Names, step: &Step) -> Result<(), AllocError>
     ensures { OnOk result (names.new ≡ each_once names.old (names_in step.now)) }
 {
-    match step {
-        Step::Input { index: _ } => Ok(()),
-        Step::Resolve {
-            pos,
-            i: _,
-            neg,
-            j: _,
-            subst: _,
-        } => {
-            add_once(names, *pos)?;
-            add_once(names, *neg)
-        }
-        Step::Tidy => Ok(()),
+    let (first, second) = step.premises();
+    add_name(names, first)?;
+    match second {
+        None => Ok(()),
+        Some(second) => add_name(names, second),
+    }
+}
+
+fn add_name(names: &mut Names, premise: Premise) -> Result<(), AllocError>
+    ensures { OnOk result (names.new ≡ each_once names.old (names_of premise)) }
+{
+    match premise {
+        Premise::Named(name) => add_once(names, name),
+        _ => Ok(()),
     }
 }
 

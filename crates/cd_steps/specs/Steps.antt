@@ -1,66 +1,38 @@
--- When a step of a derivation is right, and that right steps are sound.
--- Beyond the headline: no clause of `prove` reaches IsGiven, HoldsIfAny, StepsAreSound, StepsGiveOne.
-use Rattle.std.specs.Prelude.{◌≡◌, ℕ, true, false, List, ◌++◌, length, remove, Option, None, Some, IfSome, IsSomeAnd, slice_get}
+-- When a step of a derivation is right.
+use Rattle.std.specs.Prelude.{◌≡◌, List, ◌++◌, map, Option, None, Some}
+use Rattle.std.specs.List.{range_with_len}
 use Rattle.cd_term.specs.declared.Term.{Term}
-use Rattle.cd_clause.specs.declared.Atom.{Atom}
-use Rattle.cd_clause.specs.declared.Literal.{Literal}
+use Rattle.cd_term.specs.declared.Term.TheVariants.{Var}
 use Rattle.cd_clause.specs.declared.Clause.{Clause}
-use Rattle.cd_clause.specs.Clauses.{IsTidied}
-use Rattle.cd_clause.specs.Truth.{Interp, IsInterp, Holds}
+use Rattle.cd_clause.specs.Clauses.{variable_bound_of, IsTidied}
 use Rattle.cd_steps.specs.declared.Step.{Step}
-use Rattle.cd_steps.specs.declared.Step.TheVariants.{Input, Resolve, Tidy}
+use Rattle.cd_steps.specs.declared.Step.TheVariants.{Input, Copy, Resolve, Factor, Refl, EqFac, Para, Rewrite, Tidy}
+use Rattle.cd_steps.specs.Rules.{FollowsBy, IsResolution, IsFactoring, IsReflexivity, IsEqualityFactoring, IsParamodulation, IsRewriting}
 
--- two literals with one atom, the first positive and the second negative
-pub record AreComplementary (left right : Option Literal) : Type 0 where
-  pub atom : Atom
-  pub positive : left ≡ Some (record { positive = true; atom = atom })
-  pub negative : right ≡ Some (record { positive = false; atom = atom })
+-- a premise is there, and has a property
+abbrev pub OfOne : Option Clause → (Clause → Type 0) → Type 0
+OfOne None P = ⊥
+OfOne (Some c) P = P c
 
--- binary resolution: literal i of the first clause and literal j of the second are complementary, and the result is the rest
--- of the first and then the rest of the second. The substitution has a term for each variable of the premises: so
--- far none has a variable
-pub record Resolves (first : Clause) (i : ℕ) (second : Clause) (j : ℕ) (subst : List Term) (result : Clause) : Type 0 where
-  pub complementary : AreComplementary (slice_get first.literals i) (slice_get second.literals j)
-  pub covers : length subst ≡ 0
-  pub rest : result.literals ≡ remove first.literals i ++ remove second.literals j
+-- two premises are there, and have a property
+abbrev pub OfTwo : Option Clause → Option Clause → (Clause → Clause → Type 0) → Type 0
+OfTwo None second P = ⊥
+OfTwo (Some a) None P = ⊥
+OfTwo (Some a) (Some b) P = P a b
 
--- both premises are there, and resolve
-pub record ResolvesBoth (first : Option Clause) (i : ℕ) (second : Option Clause) (j : ℕ) (subst : List Term) (result : Clause) : Type 0 where
-  pub left : Clause
-  pub right : Clause
-  pub has_left : first ≡ Some left
-  pub has_right : second ≡ Some right
-  pub resolves : Resolves left i right j subst result
+-- each variable of a clause as its own value
+abbrev pub themselves : Clause → List Term
+themselves c = map Var (range_with_len 0 (variable_bound_of c))
 
--- the clause before it is there, and the result is its tidy form
-abbrev pub TidiesIfAny : Option Clause → Clause → Type 0
-TidiesIfAny before result = IsSomeAnd before (λ c. IsTidied c result)
-
--- the result is what the step gives of its premises: the clause before it, and the clauses that it names, or its input's
+-- the result is what the step gives of its premises: the clause before it, and the clauses that it names, or its
+-- input's. Rewriting leaves the variables of the clause before it as they are
 abbrev pub StepOk : Step → Option Clause → Option Clause → Option Clause → Clause → Type 0
 StepOk (Input index) current first second result = first ≡ Some result
-StepOk (Resolve pos i neg j subst) current first second result = ResolvesBoth first i second j subst result
-StepOk Tidy current first second result = TidiesIfAny current result
-
--- what a step gives: a clause that is right, or nothing where none is
-abbrev pub IsGiven : Step → Option Clause → Option Clause → Option Clause → Option Clause → Type 0
-IsGiven step current first second None = (c : Clause) → StepOk step current first second c → ⊥
-IsGiven step current first second (Some c) = StepOk step current first second c
-
--- the literals of the first clause but literal i, and then those of the second but literal j
-abbrev pub resolvent_of : Clause → ℕ → Clause → ℕ → Clause
-resolvent_of a i b j = record { literals = remove a.literals i ++ remove b.literals j }
-
--- a clause holds, if there is one
-abbrev pub HoldsIfAny : Interp → Option Clause → Type 0
-HoldsIfAny interp clause = IfSome clause (Holds interp)
-
--- in every interpretation in which a right step's premises hold, its result holds
-abbrev pub StepsAreSound : Type 0
-StepsAreSound = (interp : Interp) (step : Step) (current first second : Option Clause) (result : Clause) → IsInterp interp
-    → HoldsIfAny interp current → HoldsIfAny interp first → HoldsIfAny interp second
-    → StepOk step current first second result → Holds interp result
-
--- a step gives at most one clause of its premises
-abbrev pub StepsGiveOne : Type 0
-StepsGiveOne = (step : Step) (current first second : Option Clause) (c d : Clause) → StepOk step current first second c → StepOk step current first second d → c ≡ d
+StepOk (Copy of) current first second result = first ≡ Some result
+StepOk (Resolve pos i neg j subst) current first second result = OfTwo first second (λ a b. FollowsBy (IsResolution a i b j) subst result)
+StepOk (Factor of i j subst) current first second result = OfOne first (λ c. FollowsBy (IsFactoring c i j) subst result)
+StepOk (Refl of i subst) current first second result = OfOne first (λ c. FollowsBy (IsReflexivity c i) subst result)
+StepOk (EqFac of i s j z subst) current first second result = OfOne first (λ c. FollowsBy (IsEqualityFactoring c i s j z) subst result)
+StepOk (Para giver i s taker j at subst) current first second result = OfTwo first second (λ a b. FollowsBy (IsParamodulation a i s b j at) subst result)
+StepOk (Rewrite by s j at subst) current first second result = OfTwo first current (λ e c. FollowsBy (IsRewriting e s c j at) (subst ++ themselves c) result)
+StepOk Tidy current first second result = OfOne current (λ c. IsTidied c result)

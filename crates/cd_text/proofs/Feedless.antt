@@ -15,7 +15,7 @@ use Rattle.cd_clause.specs.declared.Atom.TheVariants.{Truth, Pred, Equal}
 use Rattle.cd_clause.specs.declared.Literal.{Literal}
 use Rattle.cd_clause.specs.Clauses.{terms_of, clause_terms}
 use Rattle.cd_steps.specs.declared.Step.{Step}
-use Rattle.cd_steps.specs.declared.Step.TheVariants.{Input, Resolve, Tidy}
+use Rattle.cd_steps.specs.declared.Step.TheVariants.{Input, Copy, Resolve, Factor, Refl, EqFac, Para, Rewrite, Tidy}
 use Rattle.cd_symbols.specs.Symbol.{Symbol}
 use Rattle.cd_read.specs.declared.problem.Label.TheVariants.{Word}
 use Rattle.cd_read.specs.declared.problem.Role.{Role}
@@ -28,8 +28,8 @@ use Rattle.cd_text.specs.declared.line.LineRole.{LineRole}
 use Rattle.cd_text.specs.declared.line.LineRole.TheVariants.{Given, Plain}
 use Rattle.cd_text.specs.declared.line.LineSource.{LineSource}
 use Rattle.cd_text.specs.declared.line.LineSource.TheVariants.{File, Inference}
-use Rattle.cd_text.specs.Texts.{is_printable, shown, shown_byte, quoted, quoted_byte, word_text, separated, symbol_text, arguments_text, signed_text, literal_text, literals_text, clause_text, term_text, given_text, role_text, name_text, rule_text, source_text, line_text}
-use Rattle.cd_text.specs.Feeds.{feedless, TermsFit, StepFits, SourceFits, PrintedWordsHaveNoFeed, PrintedLabelsHaveNoFeed, PrintedClausesHaveNoFeed, PrintedLinesHaveNoFeed}
+use Rattle.cd_text.specs.Texts.{is_printable, shown, shown_byte, quoted, quoted_byte, word_text, separated, symbol_text, arguments_text, signed_text, literal_text, literals_text, clause_text, term_text, given_text, role_text, name_text, numbers_text, path_text, entries_text, rule_text, source_text, line_text}
+use Rattle.cd_text.specs.Feeds.{feedless, TermsFit, NumbersFit, StepFits, SourceFits, PrintedWordsHaveNoFeed, PrintedLabelsHaveNoFeed, PrintedClausesHaveNoFeed, PrintedLinesHaveNoFeed}
 
 step : (b c d e : Bool) → e ≡ (c && d) → (b && e) ≡ ((b && c) && d)
 step true c d e h = h
@@ -210,10 +210,35 @@ role_feedless Plain = refl
 pub name_feedless : (n : ℕ) → n < 2 ^ 64 → feedless (name_text n) ≡ true
 name_feedless n fits = decimal_feedless n fits
 
+each_number : (ns : List ℕ) → NumbersFit ns → AllByRecursion (λ n. feedless (decimal n) ≡ true) ns
+each_number [] fit = tt
+each_number (n ∷ ns) fit = (decimal_feedless n fit.0, each_number ns fit.1)
+
+numbers_feedless : (ns : List ℕ) → NumbersFit ns → feedless (numbers_text ns) ≡ true
+numbers_feedless ns fit = separated_feedless (codes ",") decimal ns refl (each_number ns fit)
+
+path_feedless : (numbers path : List ℕ) → NumbersFit numbers → NumbersFit path → feedless (numbers_text numbers ++ path_text path) ≡ true
+path_feedless numbers path fit fit_path = simp (feedless-append, numbers_feedless numbers fit, numbers_feedless path fit_path)
+
+-- a rule's entries, whatever stands before the substitution
+entries_feedless : (symbols : List Symbol) (word at : List ℕ) (ts : List Term) → feedless word ≡ true → feedless at ≡ true → TermsFit ts → feedless (entries_text symbols word at ts) ≡ true
+entries_feedless symbols word at ts w a fit = simp (feedless-append, w, a, terms_feedless symbols ts fit)
+
 rule_feedless : (symbols : List Symbol) (s : Step) → StepFits s → feedless (rule_text symbols s) ≡ true
 unfolding rule_text
 rule_feedless symbols (Input index) fits = refl
-rule_feedless symbols (Resolve pos i neg j values) fits = simp (feedless-append, decimal_feedless i fits.0, decimal_feedless j fits.1, terms_feedless symbols values fits.2)
+rule_feedless symbols (Copy of) fits = refl
+rule_feedless symbols (Resolve pos i neg j ts) fits = entries_feedless symbols (codes "resolve") (numbers_text (i ∷ j ∷ [])) ts refl (numbers_feedless (i ∷ j ∷ []) fits.0) fits.1
+rule_feedless symbols (Factor of i j ts) fits = entries_feedless symbols (codes "factor") (numbers_text (i ∷ j ∷ [])) ts refl (numbers_feedless (i ∷ j ∷ []) fits.0) fits.1
+rule_feedless symbols (Refl of i ts) fits = entries_feedless symbols (codes "refl") (numbers_text (i ∷ [])) ts refl (numbers_feedless (i ∷ []) fits.0) fits.1
+rule_feedless symbols (EqFac of i s j z ts) fits =
+    entries_feedless symbols (codes "eqfac") (numbers_text (i ∷ s ∷ j ∷ z ∷ [])) ts refl (numbers_feedless (i ∷ s ∷ j ∷ z ∷ []) fits.0) fits.1
+rule_feedless symbols (Para giver i s taker j at ts) fits =
+    entries_feedless symbols (codes "para") (numbers_text (i ∷ s ∷ j ∷ []) ++ path_text at) ts refl
+    (path_feedless (i ∷ s ∷ j ∷ []) at (fits.0.0, (fits.0.1.0, (fits.0.1.1.0, tt))) fits.0.1.1.1) fits.1
+rule_feedless symbols (Rewrite by s j at ts) fits =
+    entries_feedless symbols (codes "rewrite") (numbers_text (s ∷ j ∷ []) ++ path_text at) ts refl
+    (path_feedless (s ∷ j ∷ []) at (fits.0.0, (fits.0.1.0, tt)) fits.0.1.1) fits.1
 rule_feedless symbols Tidy fits = refl
 
 each_name : (ns : List ℕ) → AllByRecursion (λ n. n < 2 ^ 64) ns → AllByRecursion (λ n. feedless (name_text n) ≡ true) ns

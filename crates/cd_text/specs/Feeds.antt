@@ -7,7 +7,8 @@ use Rattle.cd_term.specs.Terms.{bound_of}
 use Rattle.cd_clause.specs.declared.Clause.{Clause}
 use Rattle.cd_clause.specs.Clauses.{clause_terms}
 use Rattle.cd_steps.specs.declared.Step.{Step}
-use Rattle.cd_steps.specs.declared.Step.TheVariants.{Input, Resolve, Tidy}
+use Rattle.cd_steps.specs.Premises.{numbers_of}
+use Rattle.cd_steps.specs.Bounds.{subst_of}
 use Rattle.cd_symbols.specs.Symbol.{Symbol}
 use Rattle.cd_read.specs.declared.problem.Label.{Label}
 use Rattle.cd_text.specs.declared.line.Line.{Line}
@@ -28,14 +29,15 @@ TermsFit ts = AllByRecursion (λ t. bound_of t < 2 ^ 64) ts
 abbrev pub ClauseFits : Clause → Type 0
 ClauseFits c = TermsFit (clause_terms c.literals)
 
+abbrev pub NumbersFit : List ℕ → Type 0
+NumbersFit ns = AllByRecursion (λ n. n < 2 ^ 64) ns
+
 abbrev pub StepFits : Step → Type 0
-StepFits (Input index) = Unit {0}
-StepFits (Resolve pos i neg j subst) = (i < 2 ^ 64) × (j < 2 ^ 64) × TermsFit subst
-StepFits Tidy = Unit {0}
+StepFits step = NumbersFit (numbers_of step) × TermsFit (subst_of step)
 
 abbrev pub SourceFits : LineSource → Type 0
 SourceFits (File path label) = Unit {0}
-SourceFits (Inference step parents) = StepFits step × AllByRecursion (λ n. n < 2 ^ 64) parents
+SourceFits (Inference step parents) = StepFits step × NumbersFit parents
 
 pub record LineFits (l : Line) : Type 0 where
   pub number : l.number < 2 ^ 64

@@ -9,7 +9,7 @@ use Rattle.cd_clause.specs.declared.Atom.TheVariants.{Truth, Pred, Equal}
 use Rattle.cd_clause.specs.declared.Literal.{Literal}
 use Rattle.cd_clause.specs.declared.Clause.{Clause}
 use Rattle.cd_steps.specs.declared.Step.{Step}
-use Rattle.cd_steps.specs.declared.Step.TheVariants.{Input, Resolve, Tidy}
+use Rattle.cd_steps.specs.declared.Step.TheVariants.{Input, Copy, Resolve, Factor, Refl, EqFac, Para, Rewrite, Tidy}
 use Rattle.cd_symbols.specs.Symbol.{Symbol}
 use Rattle.cd_read.specs.declared.problem.Label.{Label}
 use Rattle.cd_read.specs.declared.problem.Label.TheVariants.{Word}
@@ -105,11 +105,30 @@ label_text (Word word) = word_text word
 abbrev pub name_text : ℕ → List ℕ
 name_text number = codes "c" ++ decimal number
 
--- the rule of a step and its entries. A line that takes an input names no rule
+abbrev pub numbers_text : List ℕ → List ℕ
+numbers_text ns = separated (codes ",") decimal ns
+
+-- a path behind the numbers before it
+abbrev pub path_text : List ℕ → List ℕ
+path_text path = codes ",[" ++ (numbers_text path ++ codes "]")
+
+-- a rule's word, its places and its substitution
+abbrev pub entries_text : List Symbol → List ℕ → List ℕ → List Term → List ℕ
+entries_text symbols word at subst =
+    word ++ (codes ",[status(thm),at(" ++ (at ++ (codes "),subst([" ++ (separated (codes ",") (term_text symbols) subst ++ codes "])]"))))
+
+-- the rule of a step and its entries, one case a rule. A line that takes an input names no rule, and a copy has no
+-- line of its own
 unfoldable pub rule_text : List Symbol → Step → List ℕ
 rule_text symbols (Input index) = []
-rule_text symbols (Resolve pos i neg j subst) =
-    codes "resolve,[status(thm),at(" ++ (decimal i ++ (codes "," ++ (decimal j ++ (codes "),subst([" ++ (separated (codes ",") (term_text symbols) subst ++ codes "])]")))))
+rule_text symbols (Copy of) = []
+rule_text symbols (Resolve pos i neg j subst) = entries_text symbols (codes "resolve") (numbers_text (i ∷ j ∷ [])) subst
+rule_text symbols (Factor of i j subst) = entries_text symbols (codes "factor") (numbers_text (i ∷ j ∷ [])) subst
+rule_text symbols (Refl of i subst) = entries_text symbols (codes "refl") (numbers_text (i ∷ [])) subst
+rule_text symbols (EqFac of i s j z subst) = entries_text symbols (codes "eqfac") (numbers_text (i ∷ s ∷ j ∷ z ∷ [])) subst
+rule_text symbols (Para giver i s taker j at subst) =
+    entries_text symbols (codes "para") (numbers_text (i ∷ s ∷ j ∷ []) ++ path_text at) subst
+rule_text symbols (Rewrite by s j at subst) = entries_text symbols (codes "rewrite") (numbers_text (s ∷ j ∷ []) ++ path_text at) subst
 rule_text symbols Tidy = codes "tidy,[status(thm)]"
 
 unfoldable pub source_text : List Symbol → LineSource → List ℕ

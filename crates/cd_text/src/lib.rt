@@ -6,6 +6,7 @@
 mod clauses;
 mod laws;
 mod line;
+mod rule;
 mod terms;
 mod words;
 

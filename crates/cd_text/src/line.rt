@@ -1,11 +1,11 @@
 //! The lines of a derivation.
-ghost use Rattle.std.specs.Prelude.{◌≡◌, ◌++◌, ◌∷◌, codes, decimal, OnOk, OnErr};
+ghost use Rattle.std.specs.Prelude.{◌≡◌, ◌++◌, ◌∷◌, codes, OnOk, OnErr};
 ghost use Rattle.std.specs.List.{flat_map};
 ghost use Rattle.cd_text.specs.Fronts.{KeepsFront};
-ghost use Rattle.cd_text.specs.Texts.{clause_text, given_text, separated, label_text, line_text, name_text, role_text, rule_text, source_text, term_text};
+ghost use Rattle.cd_text.specs.Texts.{clause_text, given_text, separated, label_text, line_text, name_text, role_text, source_text};
 
 use crate::clauses::put_clause;
-use crate::terms::put_terms;
+use crate::rule::put_rule;
 use crate::words::{put_bytes, put_number, put_quoted, put_word};
 use cd_clause::Clause;
 use cd_list::{Sequence, Text};
@@ -13,7 +13,6 @@ use cd_outside::Bytes;
 use cd_read::{Label, Role};
 use cd_steps::Step;
 use cd_symbols::Symbols;
-use cd_term::Term;
 use std::alloc::AllocError;
 
 /// The numbers of the lines that a line stands on.
@@ -144,55 +143,6 @@ fn put_label(label: &Label, into: &mut Bytes) -> Result<(), AllocError>
     match label {
         Label::Word(word) => put_word(into, word.as_bytes()),
     }
-}
-
-#[tactic(auto, using(std::proofs::Common::append_assoc), unfolding(crate::specs::Texts::rule_text))]
-fn put_rule(symbols: &Symbols, step: &Step, into: &mut Bytes) -> Result<(), AllocError>
-    ensures text { OnOk result (into.new ≡ into.old ++ rule_text symbols.now step.now) }
-    ensures kept { KeepsFront into.old into.new }
-{
-    match step {
-        Step::Input { index: _ } => Ok(()),
-        Step::Resolve {
-            pos: _,
-            i,
-            neg: _,
-            j,
-            subst,
-        } => {
-            put_places(
-                b"resolve,[status(thm),at(",
-                u64::from(*i),
-                u64::from(*j),
-                into,
-            )?;
-            put_subst(symbols, subst.as_slice(), into)
-        }
-        Step::Tidy => put_bytes(into, b"tidy,[status(thm)]"),
-    }
-}
-
-// Two places of literals behind what stands before them.
-#[tactic(auto, using(std::proofs::Common::append_assoc))]
-fn put_places(front: &[u8], i: u64, j: u64, into: &mut Bytes) -> Result<(), AllocError>
-    ensures text { OnOk result (into.new ≡ into.old ++ (front.now ++ (decimal i ++ (codes "," ++ decimal j)))) }
-    ensures kept { KeepsFront into.old into.new }
-{
-    put_bytes(into, front)?;
-    put_number(into, i)?;
-    put_bytes(into, b",")?;
-    put_number(into, j)
-}
-
-// The end of a rule: its substitution.
-#[tactic(auto, using(std::proofs::Common::append_assoc))]
-fn put_subst(symbols: &Symbols, subst: &[Term], into: &mut Bytes) -> Result<(), AllocError>
-    ensures text { OnOk result (into.new ≡ into.old ++ (codes "),subst([" ++ (separated (codes ",") (term_text symbols.now) subst.now ++ codes "])]"))) }
-    ensures kept { KeepsFront into.old into.new }
-{
-    put_bytes(into, b"),subst([")?;
-    put_terms(symbols, subst, into)?;
-    put_bytes(into, b"])]")
 }
 
 fn put_parents(parents: &[u64], into: &mut Bytes) -> Result<(), AllocError>

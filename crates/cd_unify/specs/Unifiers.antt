@@ -1,9 +1,14 @@
 -- Unifiers and matches of two lists of terms, over all substitutions: functions from variables to terms.
 -- Beyond the headline: no clause of `prove` reaches this file.
-use Rattle.std.specs.Prelude.{ℕ, ◌≡◌, ◌<◌, List, length, map, Option, None, slice_index_or, take, IfSome, Bool, IsTrue, ◌↔◌, MatchOption}
+use Rattle.std.specs.Prelude.{ℕ, ◌≡◌, ◌+◌, ◌<◌, List, length, map, Option, None, slice_index_or, take, IfSome, Bool, IsTrue, ◌↔◌, MatchOption}
 use Rattle.std.specs.List.{flat_map}
 use Rattle.cd_term.specs.declared.Term.{Term}
+use Rattle.cd_term.specs.declared.Term.TheVariants.{Var}
 use Rattle.cd_term.specs.Terms.{substituted, applied, value_of, variables_of, IsNumberedFrom}
+
+-- a term with its variables moved up
+abbrev pub raised : ℕ → Term → Term
+raised n = substituted (λ k. Var (n + k))
 
 -- a substitution that makes two lists of terms equal
 abbrev pub Unifies : (ℕ → Term) → List Term → List Term → Type 0

@@ -21,4 +21,4 @@ pub use bindings::Bindings;
 pub use matching::{all_occur, matches};
 pub use robinson::plain_mgu;
 pub use shapes::{may_match, may_match_all};
-pub use unifier::{are_below, mgu};
+pub use unifier::{are_below, mgu, mgu_apart};

@@ -4,7 +4,7 @@
 ghost use Rattle.std.specs.Prelude.{◌≡◌, ◌≤◌, List, map, length, IfOk, IfSome, IsTrue, ◌↔◌};
 ghost use Rattle.cd_term.specs.declared.Term.{Term};
 ghost use Rattle.cd_term.specs.Terms.{bound_of, greatest, AreWithin};
-ghost use Rattle.cd_unify.specs.Unifiers.{IsMgu, IsUnifierOrNone};
+ghost use Rattle.cd_unify.specs.Unifiers.{raised, IsMgu, IsUnifierOrNone};
 
 use crate::classes::singles;
 use crate::normal::normalized;
@@ -40,7 +40,28 @@ pub fn mgu(alloc: Global, left: &Args, right: &Args, vars: u32) -> Result<Option
     ensures out_of_bounds { result ≡ Err TermFault.OutOfBounds →
         (s : List Term) × IsMgu vars left.now right.now s × ¬ AreWithin 65535 1000 s }
 {
-    let Some(solved) = solve_classes(alloc, left, right, vars)? else {
+    mgu_apart(alloc, left.as_slice(), right.as_slice(), 0, vars)
+}
+
+/// The same of two lists of terms where they stand, the second with its variables moved up by `up`. Nothing is
+/// copied.
+/// Recurs to the depth of its terms: see 'How deep terms may be' in docs/ARCHITECTURE.md.
+pub fn mgu_apart(
+    alloc: Global,
+    left: &[Term],
+    right: &[Term],
+    up: u32,
+    vars: u32,
+) -> Result<Option<Subst>, TermFault>
+    requires as_many { length left.now ≡ length right.now }
+    requires left { greatest (map bound_of left.now) ≤ vars }
+    requires right { greatest (map bound_of (map (raised up) right.now)) ≤ vars }
+    ensures answer { IfOk result (IsUnifierOrNone vars left.now (map (raised up) right.now)) }
+    ensures within { IfOk result (λ o. IfSome o (AreWithin 65535 1000)) }
+    ensures out_of_bounds { result ≡ Err TermFault.OutOfBounds →
+        (s : List Term) × IsMgu vars left.now (map (raised up) right.now) s × ¬ AreWithin 65535 1000 s }
+{
+    let Some(solved) = solve_classes(alloc, left, right, up, vars)? else {
         return Ok(None);
     };
     let count = vars as usize;

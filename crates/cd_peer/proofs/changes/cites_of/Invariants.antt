@@ -1,6 +1,7 @@
 use Rattle.std.proofs.Common.{◌≡◌, length}
 use Rattle.std.specs.List.{flat_map}
-use Rattle.cd_ledger.specs.Names.{names_in, cites_of}
+use Rattle.cd_steps.specs.Premises.{names_in}
+use Rattle.cd_ledger.specs.Names.{cites_of}
 use Rattle.cd_names.specs.Names.{each_once}
 use Rattle.cd_peer.proofs.changes.cites_of.Given as goal
 

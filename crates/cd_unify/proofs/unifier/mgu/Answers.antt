@@ -1,45 +1,30 @@
-use Rattle.std.proofs.Common.{ap, map, subst, sym, ◌∙◌}
-use Rattle.cd_term.specs.Terms.{renumbered, AreWithin}
-use Rattle.cd_unify.specs.Unifiers.{IsMgu, HaveNoUnifier}
-use Rattle.cd_unify.specs.Solved.{IsSolved}
-use Rattle.cd_unify.proofs.UnifierLemmas.{within_renumbered}
-use Rattle.cd_unify.proofs.TermLemmas.{built, too_large, solved_mgu, at_some}
+use Rattle.std.proofs.Common.{List, length, map, ap, ◌∙◌, subst, arith, IfOk}
+use Rattle.cd_term.specs.declared.Term.{Term}
+use Rattle.cd_term.specs.Terms.{bound_of, greatest}
+use Rattle.cd_unify.specs.Unifiers.{raised, IsMgu, IsUnifierOrNone}
+use Rattle.cd_unify.proofs.GraphLemmas.{all_raised_none}
 use Rattle.cd_unify.proofs.unifier.mgu.Goals as goal
 
-pub normalized-requires : goal.normalized-requires
-normalized-requires c =
-    let is = at_some c.in_ok-solved.field-0 c.in-Some.solved (HaveNoUnifier c.args.left.now c.args.right.now)
-    (IsSolved c.args.vars c.args.left.now c.args.right.now) c.in_ok-solved.ensures c.in-Some.is in
-    subst (AreWithin 65535 1000) (sym c.as_slice-3.ensures)
-    (built c.args.vars _ _ c.in-Some.solved _ _ _ _ c.in_ok-nodes.nodes c.in_ok-terms.terms _ is c.as_slice-roots.ensures c.as_slice-roots.ensures
-    c.as_slice.ensures c.as_slice-2.ensures c.in-Some-measure_nodes.ensures c.in_ok-terms.ensures).1
+pub mgu_apart-requires-clause-as_many : goal.mgu_apart-requires-clause-as_many
+mgu_apart-requires-clause-as_many c = omega (arith, ap length c.as_slice.ensures, ap length c.as_slice-2.ensures, c.requires.as_many)
+
+pub mgu_apart-requires-clause-left : goal.mgu_apart-requires-clause-left
+mgu_apart-requires-clause-left c = omega (arith, ap (λ (ts : List Term). greatest (map bound_of ts)) c.as_slice.ensures, c.requires.left)
+
+pub mgu_apart-requires-clause-right : goal.mgu_apart-requires-clause-right
+mgu_apart-requires-clause-right c =
+    omega (arith, ap (λ (ts : List Term). greatest (map bound_of ts)) (all_raised_none c.as_slice-2.result.now ∙ c.as_slice-2.ensures), c.requires.right)
 
 pub returns-clause-answer : goal.returns-clause-answer
 returns-clause-answer c =
-    let is = at_some c.in_ok-solved.field-0 c.in-Some.solved (HaveNoUnifier c.args.left.now c.args.right.now)
-    (IsSolved c.args.vars c.args.left.now c.args.right.now) c.in_ok-solved.ensures c.in-Some.is in
-    let made = built c.args.vars _ _ c.in-Some.solved _ _ _ _ c.in_ok-nodes.nodes c.in_ok-terms.terms _ is c.as_slice-roots.ensures c.as_slice-roots.ensures
-    c.as_slice.ensures c.as_slice-2.ensures c.in-Some-measure_nodes.ensures c.in_ok-terms.ensures in
-    subst (IsMgu c.args.vars c.args.left.now c.args.right.now) (sym (c.in_ok-normalized.ensures ∙ ap renumbered (c.as_slice-3.ensures ∙ made.0)))
-    (solved_mgu c.args.vars c.args.left.now c.args.right.now c.in-Some.solved c.in_ok-nodes.nodes is c.requires.left c.requires.right
-    c.in_ok-nodes.ensures.covers c.in_ok-nodes.ensures.own)
+    subst (λ (ts : List Term). IfOk c.mgu_apart.result (IsUnifierOrNone c.args.vars c.args.left.now ts)) (all_raised_none c.as_slice-2.result.now ∙ c.as_slice-2.ensures)
+    (subst (λ (ts : List Term). IfOk c.mgu_apart.result (IsUnifierOrNone c.args.vars ts (map (raised 0) c.as_slice-2.result.now))) c.as_slice.ensures c.mgu_apart.ensures.answer)
 
-pub returns-clause-within : goal.returns-clause-within
-returns-clause-within c =
-    let is = at_some c.in_ok-solved.field-0 c.in-Some.solved (HaveNoUnifier c.args.left.now c.args.right.now)
-    (IsSolved c.args.vars c.args.left.now c.args.right.now) c.in_ok-solved.ensures c.in-Some.is in
-    let made = built c.args.vars _ _ c.in-Some.solved _ _ _ _ c.in_ok-nodes.nodes c.in_ok-terms.terms _ is c.as_slice-roots.ensures c.as_slice-roots.ensures
-    c.as_slice.ensures c.as_slice-2.ensures c.in-Some-measure_nodes.ensures c.in_ok-terms.ensures in
-    subst (AreWithin 65535 1000) (sym (c.in_ok-normalized.ensures ∙ ap renumbered c.as_slice-3.ensures))
-    (within_renumbered 65535 1000 c.in_ok-terms.terms made.1)
-
-pub returns-in_default-measure_nodes-clause-out_of_bounds : goal.returns-in_default-measure_nodes-clause-out_of_bounds
-returns-in_default-measure_nodes-clause-out_of_bounds c =
-    let is = at_some c.in_ok-solved.field-0 c.in-Some.solved (HaveNoUnifier c.args.left.now c.args.right.now)
-    (IsSolved c.args.vars c.args.left.now c.args.right.now) c.in_ok-solved.ensures c.in-Some.is in
-    λ e. (
-      renumbered (map is.tree.0 c.in_ok-nodes.nodes),
-      solved_mgu c.args.vars c.args.left.now c.args.right.now c.in-Some.solved c.in_ok-nodes.nodes is c.requires.left c.requires.right
-          c.in_ok-nodes.ensures.covers c.in_ok-nodes.ensures.own,
-      too_large c.args.vars _ _ c.in-Some.solved _ _ c.in_ok-nodes.nodes is c.as_slice-roots.ensures c.as_slice.ensures c.in_default-measure_nodes.ensures,
+pub returns-clause-out_of_bounds : goal.returns-clause-out_of_bounds
+returns-clause-out_of_bounds c = λ e.
+    let x = c.mgu_apart.ensures.out_of_bounds e in (
+      x.0,
+      subst (λ (ts : List Term). IsMgu c.args.vars c.args.left.now ts x.0) (all_raised_none c.as_slice-2.result.now ∙ c.as_slice-2.ensures)
+          (subst (λ (ts : List Term). IsMgu c.args.vars ts (map (raised 0) c.as_slice-2.result.now) x.0) c.as_slice.ensures x.1),
+      x.2,
     )

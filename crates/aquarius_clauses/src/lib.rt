@@ -1,0 +1,5 @@
+//! Tests of clauses, row by row, apart from the crate that they test.
+#![tactic(auto)]
+
+#[cfg(test)]
+mod clauses;

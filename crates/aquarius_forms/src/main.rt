@@ -1,0 +1,114 @@
+//! Prints each form of clauses, in lines that take an input. The stored output is worked out by hand from
+//! the output format.
+#![tactic(auto)]
+
+use cd_clause::{Atom, Clause, Literal, Literals};
+use cd_list::{Sequence, Text};
+use cd_outside::Bytes;
+use cd_read::{Label, Role};
+use cd_symbols::{Kind, Symbols};
+use cd_term::{Args, Term};
+use cd_text::{Line, LineRole, LineSource, line_text};
+use std::alloc::{AllocError, Global};
+use std::io::{self, Write};
+
+/// Each line with its number, and its clause.
+const LINES: [(u64, &str); 3] = [(10, "+q-q"), (3, ""), (7, "-p+e-e+t-t")];
+
+fn main(rt: HostRuntime) -> io::Result<()> {
+    let lines = lines(rt.alloc())?;
+    rt.stdout().write_all(lines.as_slice())
+}
+
+fn lines(alloc: Global) -> Result<Bytes, AllocError> {
+    let symbols = symbols(alloc)?;
+    let mut printed = Sequence::new(alloc);
+    for (number, text) in &LINES {
+        put_line(alloc, &symbols, *number, text, &mut printed)?;
+    }
+    Ok(printed)
+}
+
+fn put_line(
+    alloc: Global,
+    symbols: &Symbols,
+    number: u64,
+    text: &str,
+    into: &mut Bytes,
+) -> Result<(), AllocError> {
+    let line = line(alloc, number, text)?;
+    line_text(symbols, &line, into)?;
+    into.push(b'\n')
+}
+
+fn symbols(alloc: Global) -> Result<Symbols, AllocError> {
+    let mut symbols = Symbols::new(alloc);
+    add_symbol(alloc, &mut symbols, "p", 2, Kind::Predicate)?;
+    add_symbol(alloc, &mut symbols, "F", 2, Kind::Function)?;
+    add_symbol(alloc, &mut symbols, "a", 0, Kind::Function)?;
+    add_symbol(alloc, &mut symbols, "Is it?", 0, Kind::Predicate)?;
+    Ok(symbols)
+}
+
+fn add_symbol(
+    alloc: Global,
+    symbols: &mut Symbols,
+    text: &str,
+    arity: u16,
+    kind: Kind,
+) -> Result<(), AllocError> {
+    let text = Text::of(alloc, text)?;
+    match symbols.intern(&text, arity, kind) {
+        Ok(_) => Ok(()),
+        Err(_) => Err(AllocError),
+    }
+}
+
+fn line(alloc: Global, number: u64, text: &str) -> Result<Line, AllocError> {
+    Ok(Line {
+        number,
+        role: LineRole::Given(Role::Axiom),
+        clause: clause(alloc, text)?,
+        source: LineSource::File {
+            path: Text::of(alloc, "t.p")?,
+            label: Label::Word(Text::of(alloc, "first")?),
+        },
+    })
+}
+
+/// The clause of the literals that a text spells, each a sign and the letter of an atom.
+fn clause(alloc: Global, text: &str) -> Result<Clause, AllocError> {
+    let mut literals = Literals::new(alloc);
+    let mut positive = true;
+    for symbol in text.as_bytes() {
+        if *symbol == b'+' || *symbol == b'-' {
+            positive = *symbol == b'+';
+        } else {
+            let atom = atom(alloc, *symbol)?;
+            literals.push(Literal { positive, atom })?;
+        }
+    }
+    Ok(Clause { literals })
+}
+
+/// A predicate with arguments, one without, an equation, and `$true`.
+fn atom(alloc: Global, letter: u8) -> Result<Atom, AllocError> {
+    match letter {
+        b'p' => Ok(Atom::Pred(0, two(alloc, Term::Var(0), nested(alloc)?)?)),
+        b'q' => Ok(Atom::Pred(3, Args::new(alloc))),
+        b'e' => Ok(Atom::Equal(Term::App(2, Args::new(alloc)), Term::Var(10))),
+        _ => Ok(Atom::Truth),
+    }
+}
+
+fn nested(alloc: Global) -> Result<Term, AllocError> {
+    let args = two(alloc, Term::Var(u32::MAX), Term::App(2, Args::new(alloc)))?;
+    Ok(Term::App(1, args))
+}
+
+fn two(alloc: Global, first: Term, second: Term) -> Result<Args, AllocError> {
+    let mut args = Args::new(alloc);
+    args.push(first)?;
+    args.push(second)?;
+    Ok(args)
+}

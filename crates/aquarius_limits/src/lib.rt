@@ -1,0 +1,5 @@
+//! Tests of the limits of a run, apart from the crates that they test.
+#![tactic(auto)]
+
+#[cfg(test)]
+mod limits;

@@ -1,0 +1,5 @@
+pub mod Hits
+pub mod Laws
+pub mod Tallies
+pub mod Rows
+pub mod Held

@@ -1,0 +1,225 @@
+//! Forward and backward contraction.
+//!
+//! Most held clauses are passed over by their counts, and most others by the shapes of their terms. Keys are compared
+//! last, only where a clause subsumes or reduces another.
+#![tactic(auto)]
+
+ghost use Rattle.std.specs.Prelude.{◌≡◌, ◌≤◌, ◌↔◌, ◌∷◌, [], Some, None, List, IsTrue, IfOk};
+ghost use Rattle.std.specs.Option.{option_copied};
+ghost use Rattle.cd_clause.specs.Clauses.{IsWithinBounds};
+ghost use Rattle.cd_contract.specs.declared.held.Entry.{Entry};
+ghost use Rattle.cd_contract.specs.Hits.{Contracting, IsFirstOf, IsForward, IsWay, IsStruckBy, AreStruck, Contracts, IsReducer};
+ghost use Rattle.cd_contract.specs.Rows.{IsRow, IsKept, AreKept, entries_of};
+
+use crate::held::{Entry, Held, Hit, Hits, Kept, Struck};
+use crate::rows::Row;
+use cd_clause::Clause;
+use cd_kbo::Order;
+use cd_key::key_cmp;
+use cd_names::{How, Name};
+use cd_rewrite::reduces;
+use cd_subsume::subsumes;
+use std::alloc::{AllocError, Global};
+
+/// Whether a clause makes another one superfluous in a way. Most don't by their counts.
+fn contracts(
+    alloc: Global,
+    how: How,
+    d: &Clause,
+    row: &Row,
+    c: &Clause,
+    sought: &Row,
+    order: &Order,
+) -> Result<bool, AllocError>
+    requires clause { IsWithinBounds c.now }
+    requires row { IsRow d.now row.now }
+    requires sought { IsRow c.now sought.now }
+    ensures { IfOk result (λ b. IsTrue b ↔ Contracts order.now how d.now c.now) }
+{
+    match how {
+        How::Subsumes => {
+            if !row.may_subsume(sought) {
+                return Ok(false);
+            }
+            let Some(_subst) = subsumes(alloc, d, c)? else {
+                return Ok(false);
+            };
+            Ok(true)
+        }
+        How::Reduces => {
+            if !row.may_reduce(sought) {
+                return Ok(false);
+            }
+            let found = reduces(alloc, d, c, order)?;
+            Ok(found)
+        }
+    }
+}
+
+/// Whether a held clause of smaller key makes a clause superfluous in a way.
+fn is_contracting(
+    alloc: Global,
+    how: How,
+    c: &Clause,
+    name: Option<Name>,
+    sought: &Row,
+    kept: &Kept,
+    order: &Order,
+) -> Result<bool, AllocError>
+    requires clause { IsWithinBounds c.now }
+    requires sought { IsRow c.now sought.now }
+    requires kept { IsKept kept.now }
+    ensures { IfOk result (λ b. IsTrue b ↔ Contracting order.now how c.now name kept.now.entry) }
+{
+    let e = &kept.entry;
+    if !contracts(alloc, how, &e.clause, &kept.row, c, sought, order)? {
+        return Ok(false);
+    }
+    cd_key::laws::bounded_clauses();
+    let compared = key_cmp(&e.clause, Some(e.name), c, name, order);
+    Ok(compared.is_lt())
+}
+
+/// The first held clause of smaller key that makes a clause superfluous in a way.
+fn first_contracting<'a>(
+    alloc: Global,
+    how: How,
+    held: &'a [Kept],
+    c: &Clause,
+    name: Option<Name>,
+    sought: &Row,
+    order: &Order,
+) -> Result<Option<&'a Entry>, AllocError>
+    requires clause { IsWithinBounds c.now }
+    requires sought { IsRow c.now sought.now }
+    requires kept { AreKept held.now }
+    ensures { IfOk result (λ o. IsFirstOf (Contracting order.now how c.now name) (entries_of held.entry.now) (option_copied o)) }
+{
+    for kept in held {
+        if is_contracting(alloc, how, c, name, sought, kept, order)? {
+            return Ok(Some(&kept.entry));
+        }
+    }
+    Ok(None)
+}
+
+/// The first held clause of smaller key that subsumes a clause, else the first held equation of smaller key that
+/// reduces it, else `None`. A reduct out of bounds is a hit all the same.
+pub fn forward(
+    alloc: Global,
+    held: &Held,
+    c: &Clause,
+    name: Option<Name>,
+    order: &Order,
+) -> Result<Option<Hit>, AllocError>
+    requires { IsWithinBounds c.now }
+    ensures { IfOk result (IsForward order.now c.now name held.now) }
+{
+    let kept = held.kept();
+    let sought = Row::of(c);
+    if let Some(e) = first_contracting(alloc, How::Subsumes, kept, c, name, &sought, order)? {
+        return Ok(Some(Hit {
+            by: e.name,
+            how: How::Subsumes,
+        }));
+    }
+    if let Some(e) = first_contracting(alloc, How::Reduces, kept, c, name, &sought, order)? {
+        return Ok(Some(Hit {
+            by: e.name,
+            how: How::Reduces,
+        }));
+    }
+    Ok(None)
+}
+
+/// The first held equation of smaller key that reduces a clause, or `None` exactly where there is none.
+pub fn reducer(
+    alloc: Global,
+    held: &Held,
+    c: &Clause,
+    name: Option<Name>,
+    order: &Order,
+) -> Result<Option<Name>, AllocError>
+    requires { IsWithinBounds c.now }
+    ensures { IfOk result (λ o. IsReducer order.now c.now name held.now o) }
+{
+    let sought = Row::of(c);
+    let found = first_contracting(alloc, How::Reduces, held.kept(), c, name, &sought, order)?;
+    let Some(e) = found else {
+        return Ok(None);
+    };
+    Ok(Some(e.name))
+}
+
+/// How a clause makes another one superfluous, if it does.
+fn way_of(
+    alloc: Global,
+    d: &Clause,
+    row: &Row,
+    c: &Clause,
+    sought: &Row,
+    order: &Order,
+) -> Result<Option<How>, AllocError>
+    requires clause { IsWithinBounds c.now }
+    requires row { IsRow d.now row.now }
+    requires sought { IsRow c.now sought.now }
+    ensures { IfOk result (IsWay order.now d.now c.now) }
+{
+    if contracts(alloc, How::Subsumes, d, row, c, sought, order)? {
+        return Ok(Some(How::Subsumes));
+    }
+    if contracts(alloc, How::Reduces, d, row, c, sought, order)? {
+        return Ok(Some(How::Reduces));
+    }
+    Ok(None)
+}
+
+/// How a clause makes a held clause of greater key superfluous, if it does.
+fn strikes(
+    alloc: Global,
+    d: &Clause,
+    name: Name,
+    row: &Row,
+    kept: &Kept,
+    order: &Order,
+) -> Result<Option<How>, AllocError>
+    requires clause { IsWithinBounds d.now }
+    requires row { IsRow d.now row.now }
+    requires kept { IsKept kept.now }
+    ensures { IfOk result (IsStruckBy order.now d.now name kept.now.entry) }
+{
+    let e = &kept.entry;
+    let Some(how) = way_of(alloc, d, row, &e.clause, &kept.row, order)? else {
+        return Ok(None);
+    };
+    cd_key::laws::bounded_clauses();
+    if !key_cmp(d, Some(name), &e.clause, Some(e.name), order).is_lt() {
+        return Ok(None);
+    }
+    Ok(Some(how))
+}
+
+/// Each held clause of greater key that a clause subsumes, or else reduces, in their order.
+pub fn backward(
+    alloc: Global,
+    held: &Held,
+    d: &Clause,
+    name: Name,
+    order: &Order,
+) -> Result<Hits, AllocError>
+    requires { IsWithinBounds d.now }
+    ensures { IfOk result (AreStruck order.now d.now name held.now) }
+{
+    let row = Row::of(d);
+    let mut hits = Hits::new(alloc);
+    for kept in held.kept() {
+        let Some(how) = strikes(alloc, d, name, &row, kept, order)? else {
+            continue;
+        };
+        hits.push(Struck {
+            of: kept.entry.name,
+            how,
+        })?;
+    }
+    Ok(hits)
+}

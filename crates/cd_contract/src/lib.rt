@@ -1,0 +1,11 @@
+//! Contraction: which held clause makes a clause superfluous, and which held clauses a clause does.
+#![tactic(auto)]
+
+mod contracting;
+mod held;
+pub mod laws;
+mod rows;
+mod tally;
+
+pub use contracting::{backward, forward, reducer};
+pub use held::{Entry, Held, Hit, Hits, Struck};

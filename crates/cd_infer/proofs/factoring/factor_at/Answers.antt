@@ -1,0 +1,52 @@
+use Rattle.std.proofs.Common.{ℕ, [], ◌∷◌, List, refl, arith}
+use Rattle.std.proofs.lemmas.Bool.{false≢true}
+use Rattle.cd_term.specs.declared.Term.{Term}
+use Rattle.cd_key.proofs.BoundLemmas.{bounded_clauses}
+use Rattle.cd_steps.specs.declared.Step.TheVariants.{Factor}
+use Rattle.cd_steps.specs.Rules.{IsFactoring}
+use Rattle.cd_steps.specs.Drafts.{inference_of}
+use Rattle.cd_steps.proofs.Unique.{factoring_one}
+use Rattle.cd_infer.specs.Conclusions.{SoloGives, SoloCan, IsWithin, factor}
+use Rattle.cd_infer.proofs.Listing.{adds_none}
+use Rattle.cd_infer.proofs.BoundLemmas.{factoring_bounded}
+use Rattle.cd_infer.proofs.Giving.{fault_gathers, concludes_none, concludes_outside, concluded_none, usable_short}
+use Rattle.cd_infer.proofs.factoring.factor_at.Goals as goal
+
+pub returns-in_default : goal.returns-in_default
+returns-in_default c = adds_none (SoloGives c.args.one.now.order.now c.args.one.now.name c.args.one.now.c.now) (SoloCan c.args.one.now.order.now c.args.one.now.c.now) IsWithin (factor c.args.i c.args.j ∷ []) c.args.found.now ((λ g. c.in_default.ensures g.1.inference g.1.rule), tt)
+
+pub overflow_cast-i : goal.overflow_cast-i
+overflow_cast-i c = omega (arith, c.requires.in_first, usable_short c.args.one.now.c.now c.requires.usable)
+
+pub overflow_cast-j : goal.overflow_cast-j
+overflow_cast-j c = omega (arith, c.requires.in_second, usable_short c.args.one.now.c.now c.requires.usable)
+
+pub overflow_cast-step : goal.overflow_cast-step
+overflow_cast-step c = omega (arith, c.requires.in_first, usable_short c.args.one.now.c.now c.requires.usable)
+
+pub overflow_cast-step-in-Ok-Some : goal.overflow_cast-step-in-Ok-Some
+overflow_cast-step-in-Ok-Some c = omega (arith, c.requires.in_second, usable_short c.args.one.now.c.now c.requires.usable)
+
+pub one_eligible-requires-clause-literals : goal.one_eligible-requires-clause-literals
+one_eligible-requires-clause-literals c = bounded_clauses c.args.one.now.c.now c.requires.usable.within
+
+pub returns-then-not-one_eligible : goal.returns-then-not-one_eligible
+returns-then-not-one_eligible c = adds_none (SoloGives c.args.one.now.order.now c.args.one.now.name c.args.one.now.c.now) (SoloCan c.args.one.now.order.now c.args.one.now.c.now) IsWithin (factor c.args.i c.args.j ∷ []) c.args.found.now ((λ g. false≢true (c.if-not-one_eligible.ensures.1 g.0)), tt)
+
+pub conclude-requires : goal.conclude-requires
+conclude-requires c = factoring_bounded c.args.one.now.c.now c.args.i c.args.j c.in-Some.draft c.requires.usable c.in-Some.ensures.0 c.in-Some.ensures.1
+
+pub returns-in-Err : goal.returns-in-Err
+returns-in-Err c =
+    fault_gathers ℕ (SoloGives c.args.one.now.order.now c.args.one.now.name c.args.one.now.c.now) (SoloCan c.args.one.now.order.now c.args.one.now.c.now) (factor c.args.i c.args.j) [] [] (inference_of c.in-Some.draft) c.in-Err.fault c.in-Err.ensures (λ o.
+    let x = concludes_outside (IsFactoring c.args.one.now.c.now c.args.i c.args.j) (factoring_one c.args.one.now.c.now c.args.i c.args.j) (λ (s : List Term). Factor c.args.one.now.name c.args.i c.args.j s) (inference_of c.in-Some.draft) (λ s. refl) c.in-Some.ensures.0 o in
+    (x.0, (c.if-not-one_eligible.ensures.0 refl, x.1), x.2))
+
+pub returns-in-Ok-None : goal.returns-in-Ok-None
+returns-in-Ok-None c =
+    adds_none (SoloGives c.args.one.now.order.now c.args.one.now.name c.args.one.now.c.now) (SoloCan c.args.one.now.order.now c.args.one.now.c.now) IsWithin (factor c.args.i c.args.j ∷ []) c.args.found.now (
+      (λ g.
+          concludes_none (IsFactoring c.args.one.now.c.now c.args.i c.args.j) (factoring_one c.args.one.now.c.now c.args.i c.args.j) (λ (s : List Term). Factor c.args.one.now.name c.args.i c.args.j s) (inference_of c.in-Some.draft) c.in-Some.ensures.0
+          (concluded_none (inference_of c.in-Some.draft) c.in-Ok-None.field-0 c.in-Ok-None.field-0-is c.in-Ok-None.ensures) g.1),
+      tt,
+    )

@@ -1,0 +1,16 @@
+pub mod CodeLemmas
+pub mod Forth
+pub mod Back
+pub mod WalkForth
+pub mod WalkBack
+pub mod Could
+pub mod Names
+pub mod Sizes
+pub mod Bare
+pub mod PartLemmas
+pub mod OneMeaning
+pub mod Examples
+pub mod AsciiLemmas
+pub mod OneStatement
+pub mod OneName
+pub mod OnePart

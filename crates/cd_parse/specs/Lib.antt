@@ -1,0 +1,10 @@
+pub mod Grammar
+pub mod Statements
+pub mod Parts
+pub mod Laws
+pub mod Trees
+pub mod Steps
+pub mod Stages
+pub mod Bare
+pub mod Code
+pub mod Reading

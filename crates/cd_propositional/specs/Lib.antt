@@ -1,0 +1,2 @@
+pub mod Eligible
+pub mod Conclusions

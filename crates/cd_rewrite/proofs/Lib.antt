@@ -1,0 +1,11 @@
+pub mod Sides
+pub mod Turns
+pub mod FirstPaths
+pub mod FirstPlaces
+pub mod Replacing
+pub mod Reducts
+pub mod Sound
+pub mod Agree
+pub mod Matched
+pub mod Fitting
+pub mod Deciding

@@ -1,0 +1,15 @@
+//! Rewriting of a clause by an equation alone, at the first place where it gets smaller (demodulation; Baader and
+//! Nipkow, Term Rewriting and All That, 4.2).
+#![tactic(auto)]
+
+mod equations;
+pub mod laws;
+mod lowering;
+mod places;
+mod reducing;
+mod rewriting;
+mod shapes;
+mod walks;
+
+pub use equations::{has_variables_of, sides_of_one};
+pub use reducing::{ReductAt, reduces, reduct};

@@ -1,0 +1,92 @@
+//! Whether an equation reduces a clause, and what it makes of it.
+#![tactic(auto)]
+
+ghost use Rattle.std.specs.Prelude.{◌≡◌, ◌≤◌, ◌↔◌, List, IsTrue, IfOk, IfSome, MatchOption};
+ghost use Rattle.cd_term.specs.declared.Term.{Term};
+ghost use Rattle.cd_clause.specs.declared.Clause.{Clause};
+ghost use Rattle.cd_clause.specs.Clauses.{clause_size, IsWithinBounds};
+ghost use Rattle.cd_rewrite.specs.Reduction.{Reduces, Spot, IsReduct};
+
+use crate::equations::{equation_of, sides_of_one};
+use crate::lowering::Lowering;
+use crate::places::{Place, first_place};
+use crate::rewriting::{other_side, path_of, rewritten};
+use crate::shapes::may_reduce;
+use cd_clause::Clause;
+use cd_kbo::Order;
+use cd_term::{Path, Subst, TermFault};
+use std::alloc::{AllocError, Global};
+
+/// Whether clause `e` is one positive equation that reduces clause `c` somewhere. Most equations are refused by their
+/// symbols, without memory; the order is asked of the sides once, and of an instance only where neither is greater.
+pub fn reduces(alloc: Global, e: &Clause, c: &Clause, order: &Order) -> Result<bool, AllocError>
+    requires { clause_size c.now ≤ 65535 }
+    ensures { IfOk result (λ b. IsTrue b ↔ Reduces order.now e.now c.now) }
+{
+    let Some((left, right)) = sides_of_one(e) else {
+        return Ok(false);
+    };
+    if !may_reduce(left, right, c) {
+        return Ok(false);
+    }
+    let eq = equation_of(e, left, right, order);
+    let Some(_place) = first_place(alloc, &eq, c, order)? else {
+        return Ok(false);
+    };
+    Ok(true)
+}
+
+/// What an equation makes of a clause at the first place that it reduces: the side of the equation, the literal and
+/// the path in it, the substitution, with a term for each variable of the equation, and the clause before tidying.
+#[derive(Debug, Drop)]
+pub struct ReductAt {
+    pub s: u8,
+    pub j: u16,
+    pub at: Path,
+    pub subst: Subst,
+    pub clause: Clause,
+}
+
+/// What clause `e`, where it is one positive equation, makes of clause `c` at the first place that it reduces: of the
+/// first literal, in it of the first path, and there of the first side. `None` exactly where it reduces `c` nowhere,
+/// and `OutOfBounds` only where the reduct at the first place is out of bounds. It looks at each subterm of `c` once.
+pub fn reduct(
+    alloc: Global,
+    e: &Clause,
+    c: &Clause,
+    order: &Order,
+) -> Result<Option<ReductAt>, TermFault>
+    requires { clause_size c.now ≤ 65535 }
+    ensures value { IfOk result (λ o. MatchOption o (¬ Reduces order.now e.now c.now)
+        (λ r. IsReduct order.now e.now c.now (record { literal = r.j; path = r.at; side = r.s }) r.subst r.clause)) }
+    ensures within { IfOk result (λ o. IfSome o (λ r. IsWithinBounds r.clause)) }
+    ensures refused { result ≡ Err TermFault.OutOfBounds →
+        (at : Spot) × (s : List Term) × (d : Clause) × IsReduct order.now e.now c.now at s d × (¬ IsWithinBounds d) }
+{
+    let Some((left, right)) = sides_of_one(e) else {
+        return Ok(None);
+    };
+    let eq = equation_of(e, left, right, order);
+    let Some(place) = first_place(alloc, &eq, c, order)? else {
+        return Ok(None);
+    };
+    let Place {
+        literal,
+        way,
+        lowering,
+    } = place;
+    let Lowering { side, subst } = lowering;
+    let at = path_of(alloc, way.as_slice())?;
+    let to = other_side(left, right, side);
+    match rewritten(alloc, c, literal, &at, to, &subst) {
+        Err(fault) => Err(fault),
+        Ok(None) => Ok(None),
+        Ok(Some(clause)) => Ok(Some(ReductAt {
+            s: side,
+            j: literal,
+            at,
+            subst,
+            clause,
+        })),
+    }
+}

@@ -1,0 +1,11 @@
+pub mod Binding
+pub mod Items
+pub mod Measures
+pub mod Goals
+pub mod Searching
+pub mod Becoming
+pub mod Sound
+pub mod Counts
+pub mod Growing
+pub mod TidyForms
+pub mod Deciding

@@ -1,0 +1,3 @@
+pub mod JoinedSeats
+pub mod Seats
+pub mod Steps
