@@ -41,12 +41,19 @@ fn put_line(
     into.push(b'\n')
 }
 
+/// The symbols of all lines, with their numbers of arguments.
+const SYMBOLS: [(&str, u16, Kind); 4] = [
+    ("p", 2, Kind::Predicate),
+    ("F", 2, Kind::Function),
+    ("a", 0, Kind::Function),
+    ("Is it?", 0, Kind::Predicate),
+];
+
 fn symbols(alloc: Global) -> Result<Symbols, AllocError> {
     let mut symbols = Symbols::new(alloc);
-    add_symbol(alloc, &mut symbols, "p", 2, Kind::Predicate)?;
-    add_symbol(alloc, &mut symbols, "F", 2, Kind::Function)?;
-    add_symbol(alloc, &mut symbols, "a", 0, Kind::Function)?;
-    add_symbol(alloc, &mut symbols, "Is it?", 0, Kind::Predicate)?;
+    for (text, arity, kind) in &SYMBOLS {
+        add_symbol(alloc, &mut symbols, text, *arity, *kind)?;
+    }
     Ok(symbols)
 }
 
