@@ -12,8 +12,21 @@ use cd_text::{Line, LineRole, LineSource, line_text};
 use std::alloc::{AllocError, Global};
 use std::io::{self, Write};
 
-/// Each line with its number, and its clause.
-const LINES: [(u64, &str); 3] = [(10, "+q-q"), (3, ""), (7, "-p+e-e+t-t")];
+/// A line's number, its clause, its role, its label, and whether that is an integer.
+type Row = (u64, &'static str, Role, &'static str, bool);
+
+const LINES: [Row; 10] = [
+    (10, "+q-q", Role::Axiom, "first", false),
+    (3, "", Role::Hypothesis, "second", false),
+    (7, "-p+e-e+t-t", Role::Definition, "Third", false),
+    (1, "+q", Role::Assumption, "", false),
+    (u64::MAX, "-q", Role::Lemma, "it's", false),
+    (2, "+t", Role::Theorem, "a_B9", false),
+    (4, "-t", Role::Corollary, "9", false),
+    (5, "", Role::NegatedConjecture, "_", false),
+    (6, "", Role::Plain, "plain", false),
+    (8, "", Role::Axiom, "007", true),
+];
 
 fn main(rt: HostRuntime) -> io::Result<()> {
     let lines = lines(rt.alloc())?;
@@ -23,8 +36,8 @@ fn main(rt: HostRuntime) -> io::Result<()> {
 fn lines(alloc: Global) -> Result<Bytes, AllocError> {
     let symbols = symbols(alloc)?;
     let mut printed = Sequence::new(alloc);
-    for (number, text) in &LINES {
-        put_line(alloc, &symbols, *number, text, &mut printed)?;
+    for row in &LINES {
+        put_line(alloc, &symbols, row, &mut printed)?;
     }
     Ok(printed)
 }
@@ -32,11 +45,10 @@ fn lines(alloc: Global) -> Result<Bytes, AllocError> {
 fn put_line(
     alloc: Global,
     symbols: &Symbols,
-    number: u64,
-    text: &str,
+    row: &Row,
     into: &mut Bytes,
 ) -> Result<(), AllocError> {
-    let line = line(alloc, number, text)?;
+    let line = line(alloc, row)?;
     line_text(symbols, &line, into)?;
     into.push(b'\n')
 }
@@ -71,16 +83,26 @@ fn add_symbol(
     }
 }
 
-fn line(alloc: Global, number: u64, text: &str) -> Result<Line, AllocError> {
+fn line(alloc: Global, row: &Row) -> Result<Line, AllocError> {
+    let (number, text, role, name, is_integer) = row;
     Ok(Line {
-        number,
-        role: LineRole::Given(Role::Axiom),
+        number: *number,
+        role: LineRole::Given(*role),
         clause: clause(alloc, text)?,
         source: LineSource::File {
             path: Text::of(alloc, "t.p")?,
-            label: Label::Word(Text::of(alloc, "first")?),
+            label: label(alloc, name, *is_integer)?,
         },
     })
+}
+
+fn label(alloc: Global, name: &str, is_integer: bool) -> Result<Label, AllocError> {
+    let text = Text::of(alloc, name)?;
+    if is_integer {
+        Ok(Label::Integer(text))
+    } else {
+        Ok(Label::Word(text))
+    }
 }
 
 /// The clause of the literals that a text spells, each a sign and the letter of an atom.

@@ -1,7 +1,7 @@
 //! The journals that a run has beside its answer.
-use cd_ledger::{Act, Event, Task};
 use cd_list::{Sequence, Text};
 use cd_outside::{OpenGate, Page, Shelf};
+use cd_propositional_ledger::{Act, Event, Task};
 use cd_top::{ProveOutcome, prove};
 use std::alloc::{AllocError, Global};
 use std::sync::Wait;

@@ -84,8 +84,26 @@ fn a_peer_stops_at_its_fifty_thousandth_task_and_not_before(
     Ok(())
 }
 
+/// Statements of 15 bytes, which are the same.
+fn statements(alloc: Global, count: u64) -> Result<Bytes, AllocError> {
+    let mut file = Sequence::new(alloc);
+    for _ in 0..count {
+        file.extend(b"cnf(a,axiom,p).")?;
+    }
+    Ok(file)
+}
+
 #[test]
-fn a_file_of_65536_bytes_is_read_and_no_longer_one(rt: HostRuntime) -> Result<(), AllocError> {
+fn so_far_4096_inputs_are_taken_and_no_more(rt: HostRuntime) -> Result<(), AllocError> {
+    for (count, status, text) in [(4_096, 1, ""), (4_097, 65, REFUSED)] {
+        let file = statements(rt.alloc(), count)?;
+        assert!(rt; ends(&rt, rt.alloc(), file, status, text)?, "{count}");
+    }
+    Ok(())
+}
+
+#[test]
+fn so_far_65536_bytes_are_taken_and_no_more(rt: HostRuntime) -> Result<(), AllocError> {
     for (more, status, text) in [("", 1, ""), ("\n", 65, REFUSED)] {
         let file = alike(rt.alloc(), more)?;
         assert!(rt; ends(&rt, rt.alloc(), file, status, text)?, "{more}");

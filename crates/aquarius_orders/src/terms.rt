@@ -111,7 +111,7 @@ fn a_table_of_comparisons(rt: HostRuntime) -> Result<(), Fail> {
         ("ha0", "h0a", ABOVE),
         ("h0a", "f0", GREATER),
         ("h01", "fa", GREATER),
-        // variables past the first 64, and far apart
+        // variables past the first 16, and far apart
         ("hWfV", "hVW", GREATER),
         ("hWfV", "h01", ABOVE),
         ("hf3Z", "h3Z", GREATER),

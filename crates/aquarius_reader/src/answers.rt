@@ -1,7 +1,7 @@
 //! What the tests ask of a call.
 use cd_list::{Sequence, Text};
 use cd_outside::{Bytes, Shelf, Shelved};
-use cd_source::{Problem, ReadFault, What, read_problem};
+use cd_read::{Problem, ReadFault, What, read_problem};
 use std::alloc::{AllocError, Global};
 use std::process::Abort;
 use std::test::Fail;

@@ -3,7 +3,7 @@ use crate::answers::push_file;
 use cd_clause::{size, variables};
 use cd_list::{Sequence, Text};
 use cd_outside::{Shelf, Shelved};
-use cd_source::{Input, Label, Problem, Role, read_problem};
+use cd_read::{Input, Label, Problem, Role, read_problem};
 use cd_symbols::{Kind, Symbols};
 use std::alloc::{AllocError, Global};
 use std::process::Abort;

@@ -1,8 +1,8 @@
 //! Outcomes of entries that are settled.
-use cd_ledger::{Limits, Outcome, Settled};
 use cd_list::{Sequence, Text};
 use cd_outside::Shelf;
-use cd_read::read_problem;
+use cd_propositional_ledger::{Limits, Outcome, Settled, taken_problems_are_formed, unbuilt_file};
+use cd_read::read_counted;
 use std::alloc::{AllocError, Global};
 
 fn shelf_of(alloc: Global, file: &str) -> Result<Shelf, AllocError> {
@@ -25,10 +25,14 @@ fn is_trivial(settled: &[Settled]) -> bool {
 fn settles_a_tautology(alloc: Global, file: &str) -> Result<bool, AllocError> {
     let mut library = shelf_of(alloc, file)?;
     let path = Text::of(alloc, "t.p")?;
-    let Ok(problem) = read_problem(alloc, &mut library, &path) else {
+    let Ok((problem, bytes)) = read_counted(alloc, &mut library, &path) else {
         return Ok(false);
     };
-    let local = cd_peer::run(alloc, &problem, Limits { steps: 50_000 })?;
+    taken_problems_are_formed();
+    if unbuilt_file(&problem, bytes).is_some() {
+        return Ok(false);
+    }
+    let local = cd_propositional_peer::run(alloc, &problem, Limits { steps: 50_000 })?;
     Ok(is_trivial(local.settled.as_slice()))
 }
 

@@ -6,7 +6,7 @@ use Rattle.std.proofs.lemmas.List.Elements.{filter-append}
 use Rattle.cd_symbols.specs.Symbol.{Symbol}
 use Rattle.cd_text.specs.declared.line.Line.{Line}
 use Rattle.cd_text.specs.Texts.{line_text}
-use Rattle.cd_text.specs.Feeds.{feedless, LineFits}
+use Rattle.cd_text.specs.Feeds.{feedless, SourceFits}
 use Rattle.cd_text.proofs.Feedless.{line_feedless}
 use Rattle.cd_check.specs.Accepted.{lines_of, onto, is_taken}
 use Rattle.cd_check.specs.Lines.{LinesAreCut, PrintedLinesAreTaken, CommentsArePassedOver, DerivationsAreTaken}
@@ -54,7 +54,7 @@ comment_passed (b ∷ bs) begins =
 
 -- ---- the text of a derivation
 
-each_line : (symbols : List Symbol) (ls : List Line) → AllByRecursion LineFits ls → AllByRecursion (λ l. feedless (line_text symbols l) ≡ true) ls
+each_line : (symbols : List Symbol) (ls : List Line) → AllByRecursion (λ (l : Line). SourceFits l.source) ls → AllByRecursion (λ l. feedless (line_text symbols l) ≡ true) ls
 each_line symbols [] fit = tt
 each_line symbols (l ∷ ls) fit = (line_feedless symbols l fit.0, each_line symbols ls fit.1)
 
@@ -65,7 +65,7 @@ all_taken symbols (l ∷ ls) = rw (line_taken symbols l, all_taken symbols ls) r
 regroup : (x y body z : List ℕ) → (x ++ 10 ∷ []) ++ ((y ++ 10 ∷ []) ++ (body ++ (z ++ 10 ∷ []))) ≡ x ++ 10 ∷ (y ++ 10 ∷ (body ++ (z ++ 10 ∷ [])))
 regroup x y body z = simp append_assoc
 
-pub derivation_lines : (symbols : List Symbol) (x y z : List ℕ) (ls : List Line) → feedless x ≡ true → feedless y ≡ true → feedless z ≡ true → AllByRecursion LineFits ls
+pub derivation_lines : (symbols : List Symbol) (x y z : List ℕ) (ls : List Line) → feedless x ≡ true → feedless y ≡ true → feedless z ≡ true → AllByRecursion (λ (l : Line). SourceFits l.source) ls
     → lines_of ((x ++ 10 ∷ []) ++ ((y ++ 10 ∷ []) ++ (flat_map (λ l. line_text symbols l ++ 10 ∷ []) ls ++ (z ++ 10 ∷ [])))) ≡ x ∷ y ∷ (map (line_text symbols) ls ++ z ∷ [])
 derivation_lines symbols x y z ls none_x none_y none_z fit =
     let body = flat_map (λ l. line_text symbols l ++ 10 ∷ []) ls in

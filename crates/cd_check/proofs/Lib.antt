@@ -1,2 +1,10 @@
 pub mod Cuts
 pub mod Refuting
+pub mod Accepting
+pub mod BodyLemmas
+pub mod Index
+pub mod Inputs
+pub mod Conditions
+pub mod Pieces
+pub mod Verdicts
+pub mod Rightness

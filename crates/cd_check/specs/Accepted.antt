@@ -1,22 +1,19 @@
 -- The texts that are accepted as derivations from a problem.
 -- Beyond the headline: no clause of `prove` reaches AcceptedTextsRefute.
-use Rattle.std.specs.Prelude.{◌≡◌, ◌≢◌, ℕ, ◌+◌, ◌<◌, ◌≤◌, Bool, false, not, ◌==◌, if◌then◌else◌, List, [], ◌∷◌, ◌++◌, length, map, filter, Option, None, Some, slice_get}
-use Rattle.std.specs.List.{AllByRecursion}
+use Rattle.std.specs.Prelude.{◌≡◌, ℕ, zero, suc, ◌+◌, Bool, false, not, ◌==◌, if◌then◌else◌, List, [], ◌∷◌, ◌++◌, length, map, filter, Option, Some, None, slice_get, is_some, IsTrue}
+use Rattle.std.specs.List.{AllByRecursion, list_all}
 use Rattle.cd_clause.specs.declared.Clause.{Clause}
 use Rattle.cd_clause.specs.Truth.{HaveNoModel}
-use Rattle.cd_steps.specs.declared.Step.{Step}
-use Rattle.cd_steps.specs.Premises.{premises, numbers_of, IsRightFrom}
-use Rattle.cd_steps.specs.Bounds.{subst_of}
+use Rattle.cd_steps.specs.Premises.{IsRightWith}
+use Rattle.cd_parse.specs.declared.label.Label.{Label}
 use Rattle.cd_read.specs.declared.problem.Problem.{Problem}
 use Rattle.cd_read.specs.declared.problem.Input.{Input as ProblemInput}
-use Rattle.cd_read.specs.declared.problem.Label.{Label}
-use Rattle.cd_read.specs.Problems.{ClauseFormed}
-use Rattle.cd_symbols.specs.Symbol.{Symbol}
 use Rattle.cd_text.specs.declared.line.Line.{Line}
-use Rattle.cd_text.specs.declared.line.LineRole.TheVariants.{Given, Plain}
+use Rattle.cd_text.specs.declared.line.LineRole.TheVariants.{Given}
 use Rattle.cd_text.specs.declared.line.LineSource.{LineSource}
 use Rattle.cd_text.specs.declared.line.LineSource.TheVariants.{File, Inference}
-use Rattle.cd_text.specs.Texts.{quoted, label_text, rule_text, line_text}
+use Rattle.cd_text.specs.Texts.{quoted, label_text, line_text}
+use Rattle.cd_text.specs.Formed.{IsLineFormed}
 
 -- ---- the lines of a text
 
@@ -34,33 +31,20 @@ abbrev pub is_taken : List ℕ → Bool
 is_taken [] = false
 is_taken (b ∷ bs) = not (b == 37)
 
--- ---- the form of a line
+-- ---- what is asked of a line behind the clauses of the earlier lines
 
--- an inference names a rule, and has a parent for each of its premises. Places are below 65,536; so far a
--- substitution has no term
-pub record IsInferenceFormed (symbols : List Symbol) (step : Step) (parents : List ℕ) : Type 0 where
-  pub rule : rule_text symbols step ≢ []
-  pub numbers : AllByRecursion (λ n. n < 65536) (numbers_of step)
-  pub subst : subst_of step ≡ []
-  pub parents_are : length parents ≡ length (premises step)
+-- the clause of the line with this number, the first being line 1
+abbrev pub clause_of_line : List Clause → ℕ → Option Clause
+clause_of_line before zero = None
+clause_of_line before (suc n) = slice_get before n
 
--- a line that takes an input has its role, any other is plain
-abbrev pub IsSourceFormed : List Symbol → Line → LineSource → Type 0
-IsSourceFormed symbols l (File path label) = (i : ProblemInput) × (l.role ≡ Given i.role)
-IsSourceFormed symbols l (Inference step parents) = (l.role ≡ Plain) × IsInferenceFormed symbols step parents
+-- each parent is an earlier line
+abbrev pub are_earlier : List Clause → List ℕ → Bool
+are_earlier before parents = list_all (λ n. is_some (clause_of_line before n)) parents
 
-pub record IsLineFormed (symbols : List Symbol) (l : Line) : Type 0 where
-  pub number : 0 < l.number
-  pub clause : ClauseFormed symbols l.clause
-  pub short : length l.clause.literals ≤ 65535
-  pub source : IsSourceFormed symbols l l.source
-
--- ---- right lines
-
--- the clause of the line with this number, among earlier lines
-abbrev pub clause_at : List Line → ℕ → Option Clause
-clause_at [] number = None
-clause_at (l ∷ ls) number = if l.number == number then Some l.clause else clause_at ls number
+abbrev pub AreEarlier : List Clause → LineSource → Type 0
+AreEarlier before (File path label) = Unit {0}
+AreEarlier before (Inference step parents) = IsTrue (are_earlier before parents)
 
 -- some input has that role and clause, and in print that path and label
 pub record IsInput (p : Problem) (l : Line) (path : List ℕ) (label : Label) : Type 0 where
@@ -72,36 +56,42 @@ pub record IsInput (p : Problem) (l : Line) (path : List ℕ) (label : Label) : 
   pub label_is : label_text input.label ≡ label_text label
   pub clause_is : input.clause ≡ l.clause
 
--- the parents are earlier lines, and the step is right from their clauses, in their order
-pub record IsInferred (before : List Line) (step : Step) (parents : List ℕ) (clause : Clause) : Type 0 where
-  pub clauses : List Clause
-  pub are : map (clause_at before) parents ≡ map Some clauses
-  pub right : IsRightFrom step clauses clause
+abbrev pub IsFromInput : Problem → Line → LineSource → Type 0
+IsFromInput p l (File path label) = IsInput p l path label
+IsFromInput p l (Inference step parents) = Unit {0}
 
-abbrev pub IsSourceOk : Problem → List Line → Line → LineSource → Type 0
-IsSourceOk p before l (File path label) = IsInput p l path label
-IsSourceOk p before l (Inference step parents) = IsInferred before step parents l.clause
+-- the step is right with the clauses of its parents, in their order
+abbrev pub IsInferred : List Clause → Clause → LineSource → Type 0
+IsInferred before c (File path label) = Unit {0}
+IsInferred before c (Inference step parents) = IsRightWith (map (clause_of_line before) parents) step c
 
--- a line is right behind the earlier ones: it has the next number, and its input or its step is right
-pub record IsLineOk (p : Problem) (before : List Line) (l : Line) : Type 0 where
+-- the four conditions, beside the form, in the order in which they are looked at
+pub record IsLineOk (p : Problem) (before : List Clause) (l : Line) : Type 0 where
   pub number : l.number ≡ length before + 1
-  pub source : IsSourceOk p before l l.source
+  pub parents : AreEarlier before l.source
+  pub input : IsFromInput p l l.source
+  pub step : IsInferred before l.clause l.source
 
-abbrev pub AreLinesOk : Problem → List Line → List Line → Type 0
+abbrev pub AreLinesOk : Problem → List Clause → List Line → Type 0
 AreLinesOk p before [] = Unit {0}
-AreLinesOk p before (l ∷ ls) = IsLineOk p before l × AreLinesOk p (before ++ l ∷ []) ls
+AreLinesOk p before (l ∷ ls) = IsLineOk p before l × AreLinesOk p (before ++ l.clause ∷ []) ls
 
--- there is a last line, and it has the empty clause
-abbrev pub EndsEmpty : List Line → Type 0
+abbrev pub clause_of : Line → Clause
+clause_of l = l.clause
+
+-- there is a last clause, and it is the empty one
+abbrev pub EndsEmpty : List Clause → Type 0
 EndsEmpty [] = ⊥
-EndsEmpty (l ∷ []) = l.clause.literals ≡ []
-EndsEmpty (l ∷ m ∷ ls) = EndsEmpty (m ∷ ls)
+EndsEmpty (c ∷ []) = c.literals ≡ []
+EndsEmpty (c ∷ d ∷ cs) = EndsEmpty (d ∷ cs)
+
+-- ---- accepted texts
 
 -- a refutation: lines that are formed, each right behind the earlier ones, the last one with the empty clause
 pub record IsRefutation (p : Problem) (lines : List Line) : Type 0 where
   pub formed : AllByRecursion (IsLineFormed p.symbols) lines
   pub right : AreLinesOk p [] lines
-  pub end : EndsEmpty lines
+  pub end : EndsEmpty (map clause_of lines)
 
 -- the lines of the text that aren't passed over are those of a refutation, byte for byte
 pub record AcceptedText (p : Problem) (text : List ℕ) : Type 0 where

@@ -3,13 +3,16 @@ pub mod TautologyLemmas
 pub mod SoundnessLemmas
 pub mod TidyLemmas
 pub mod KeptLemmas
+pub mod CodeLemmas
 pub mod LimitLemmas
 pub mod JoinLemmas
 pub mod AlikeLemmas
 pub mod TidiedLemmas
+pub mod OrderLemmas
 pub mod RenumberLemmas
 pub mod PlaceLemmas
 pub mod OverLemmas
 pub mod Agreement
 pub mod TidyForms
 pub mod TidyMeasures
+pub mod Deciding

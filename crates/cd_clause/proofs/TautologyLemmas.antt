@@ -1,5 +1,5 @@
 -- The two tests of a tautology.
-use Rattle.std.proofs.Common.{◌≡◌, Bool, true, false, ◌⊎◌, inl, inr, List, sym, subst}
+use Rattle.std.proofs.Common.{◌≡◌, Bool, true, false, ◌⊎◌, inl, inr, List, [], ◌∷◌, sym, subst, ◌∙◌}
 use Rattle.std.proofs.lemmas.Bool.{false≢true}
 use Rattle.cd_clause.specs.declared.Literal.{Literal}
 use Rattle.cd_list.specs.Lists.{Among}
@@ -18,3 +18,9 @@ tautology_else ls xs ys r first is are second =
         | inr o ↦ second.1 (subst both (sym are) o)
       ]),
     )
+
+-- a negative literal is opposite to none
+pub negative_none : (l : Literal) (ms : List Literal) → l.positive ≡ false → Among (AreOpposite l) ms → ⊥
+negative_none l [] e some = some
+negative_none l (m ∷ ms) e (inl p) = false≢true (sym e ∙ p.0)
+negative_none l (m ∷ ms) e (inr rest) = negative_none l ms e rest

@@ -1,9 +1,10 @@
 -- Tidy forms exist, are tidy, and are no larger than their clause and over the same symbols.
-use Rattle.std.proofs.Common.{◌≡◌, ◌⊎◌, inl, inr, ℕ, ◌+◌, ◌≤◌, false, Option, None, Some, List, [], ◌∷◌, ◌++◌, map, sum_by, refl, ap, ap₂, sym, ◌∙◌, subst, arith}
+use Rattle.std.proofs.Common.{◌≡◌, ◌⊎◌, inl, inr, ℕ, ◌+◌, ◌≤◌, Option, None, Some, List, [], ◌∷◌, ◌++◌, map, sum_by, refl, ap, sym, ◌∙◌, subst, arith}
 use Rattle.std.specs.List.{flat_map}
 use Rattle.std.proofs.lemmas.List.{map-id}
 use Rattle.std.proofs.lemmas.List.Sums.{sum_by-cons}
 use Rattle.cd_list.specs.Lists.{Among}
+use Rattle.cd_list.proofs.Decisions.{given}
 use Rattle.cd_list.proofs.Among.{among_append}
 use Rattle.cd_term.specs.declared.Term.{Term}
 use Rattle.cd_term.specs.Terms.{greatest, size_of, depth_of, bound_of, variables_of, substituted, order_of, rank, ranked, unranked, renumbered, renamed_by, firsts_after, IsNumberedFrom}
@@ -12,41 +13,19 @@ use Rattle.cd_term.proofs.SizeLaws.{renamed_sizes}
 use Rattle.cd_term.proofs.VariableLaws.{renumbered-numbered}
 use Rattle.cd_term.proofs.NumberingLemmas.{renamed_back}
 use Rattle.cd_term.proofs.Substitutions.{substituted-identity}
-use Rattle.cd_term.proofs.Deciding.{Decided, both_decide, either_decides, decided_as, among_decides, signs_decide, numbers_decide, terms_decide, all_terms_decide}
 use Rattle.cd_term.proofs.OverLemmas.{over-Var}
 use Rattle.cd_clause.specs.declared.Atom.{Atom}
 use Rattle.cd_clause.specs.declared.Atom.TheVariants.{Truth, Pred, Equal}
 use Rattle.cd_clause.specs.declared.Literal.{Literal}
-use Rattle.cd_clause.specs.Clauses.{terms_of, clause_terms, literal_size, literal_depth, atom_depth, atom_changed, literal_changed, literals_changed, renumbered_literals, exchanged, IsSameAtom, IsSameLiteral, IsTrivialAtom, IsSuperfluous, AreKept, AreLiteralsMeasured}
+use Rattle.cd_clause.specs.Clauses.{terms_of, clause_terms, literal_size, literal_depth, atom_depth, atom_changed, literal_changed, literals_changed, renumbered_literals, exchanged, IsSameAtom, IsSameLiteral, IsTrivialAtom, IsSuperfluous, AreKept, IsTidied, AreLiteralsMeasured}
 use Rattle.cd_clause.specs.Over.{LiteralsOver}
-use Rattle.cd_clause.specs.TidyLaws.{TidyFormsExist, TidyFormsAreTidy, TidyFormsAreSmall, TidyFormsAreOver}
-use Rattle.cd_clause.proofs.TidiedLemmas.{changed_terms}
+use Rattle.cd_clause.specs.TidyLaws.{TidyFormsExist, TidyFormsDecide, TidyFormsAreTidy, TidyFormsAreSmall, TidyFormsAreOver}
+use Rattle.cd_clause.proofs.TidiedLemmas.{changed_terms, tidy_forms_agree}
 use Rattle.cd_clause.proofs.TidyLemmas.{fixed_literals, renumbered_literals-back}
 use Rattle.cd_clause.proofs.OverLemmas.{literals_over}
+use Rattle.cd_clause.proofs.Deciding.{superfluous_decides, clauses_decide}
 
 -- ---- a tidy form is there
-
-atoms_decide : (a b : Atom) → Decided (a ≡ b)
-atoms_decide Truth Truth = inl refl
-atoms_decide Truth (Pred q us) = inr (λ e. cc)
-atoms_decide Truth (Equal u v) = inr (λ e. cc)
-atoms_decide (Pred p ts) Truth = inr (λ e. cc)
-atoms_decide (Pred p ts) (Pred q us) = decided_as (λ x. ap₂ Pred x.0 x.1) (λ e. (cc, cc)) (both_decide (numbers_decide p q) (all_terms_decide ts us))
-atoms_decide (Pred p ts) (Equal u v) = inr (λ e. cc)
-atoms_decide (Equal s t) Truth = inr (λ e. cc)
-atoms_decide (Equal s t) (Pred q us) = inr (λ e. cc)
-atoms_decide (Equal s t) (Equal u v) = decided_as (λ x. ap₂ Equal x.0 x.1) (λ e. (cc, cc)) (both_decide (terms_decide s u) (terms_decide t v))
-
-trivial_decides : (a : Atom) → Decided (IsTrivialAtom a)
-trivial_decides Truth = inl tt
-trivial_decides (Pred p args) = inr (λ e. e)
-trivial_decides (Equal s t) = terms_decide s t
-
-same_decides : (l m : Literal) → Decided (IsSameLiteral l m)
-same_decides l m = both_decide (signs_decide l.positive m.positive) (either_decides (atoms_decide l.atom m.atom) (atoms_decide (exchanged l.atom) m.atom))
-
-superfluous_decides : (earlier : List Literal) (l : Literal) → Decided (IsSuperfluous earlier l)
-superfluous_decides earlier l = either_decides (both_decide (signs_decide l.positive false) (trivial_decides l.atom)) (among_decides (IsSameLiteral l) (same_decides l) earlier)
 
 some_kept : (earlier ls : List Literal) → (kept : List Literal) × AreKept earlier ls kept
 some_kept earlier [] = ([], refl)
@@ -57,6 +36,11 @@ some_kept earlier (l ∷ ls) = (let rest = some_kept (earlier ++ l ∷ []) ls in
 
 pub tidy_forms_exist : TidyFormsExist
 tidy_forms_exist c = (let k = some_kept [] c.literals in (record { literals = renumbered_literals k.0 }, (k.0, k.1, refl)))
+
+pub tidy_forms_decide : TidyFormsDecide
+tidy_forms_decide c d =
+    let there = tidy_forms_exist c in
+    given (λ same. subst (IsTidied c) (sym same) there.1) (λ tidied. tidy_forms_agree c d there.0 tidied there.1) (clauses_decide d there.0)
 
 -- ---- what is kept isn't superfluous, and stays so under a renaming that can be taken back
 

@@ -1,6 +1,6 @@
 -- Clauses: sizes, variables, substitution, tidying and tautologies.
--- Beyond the headline: no clause of `prove` reaches literal_size, clause_size, atom_depth, literal_depth,
---   IsWithinBounds, IsAtomWithin, IsAtomMeasure, AreLiteralsWithin, AreLiteralsMeasured, HasNoRepeat, joined.
+-- Beyond the headline: no clause of `prove` reaches IsAtomWithin, IsAtomMeasure, AreLiteralsWithin,
+--   AreLiteralsMeasured, HasNoRepeat, joined.
 use Rattle.std.specs.Prelude.{ℕ, ◌≡◌, ◌+◌, ◌≤◌, max, true, false, ◌⊎◌, List, [], ◌∷◌, ◌++◌, map, remove, sum_by, drop, Option, Some, None}
 use Rattle.std.specs.List.{flat_map}
 use Rattle.cd_list.specs.Lists.{Among, AllPairs}

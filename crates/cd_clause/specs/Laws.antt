@@ -2,11 +2,13 @@
 -- Beyond the headline: no clause of `prove` reaches this file.
 use Rattle.std.specs.List.{list_any, flat_map}
 use Rattle.std.specs.Prelude.{ℕ, ◌≡◌, ◌<◌, ◌↔◌, IsTrue}
+use Rattle.cd_list.specs.Decisions.{Decided}
 use Rattle.cd_term.specs.declared.Term.{Term}
 use Rattle.cd_term.specs.declared.Term.TheVariants.{Var}
 use Rattle.cd_term.specs.Terms.{occurs, variables_of, IsNumberedFrom}
+use Rattle.cd_clause.specs.declared.Atom.{Atom}
 use Rattle.cd_clause.specs.declared.Clause.{Clause}
-use Rattle.cd_clause.specs.Clauses.{clause_terms, variable_bound_of, instance, renumbered_literals, IsTautology, IsTidied}
+use Rattle.cd_clause.specs.Clauses.{clause_terms, variable_bound_of, instance, renumbered_literals, IsWithinBounds, IsSameAtom, IsTautology, IsTidied}
 use Rattle.cd_clause.specs.Truth.{Interp, IsInterp, Holds}
 
 -- a clause that holds, holds under every substitution
@@ -16,6 +18,18 @@ InstancesHold = (interp : Interp) (g : ℕ → Term) (c : Clause) → IsInterp i
 -- a tautology holds in every interpretation
 abbrev pub TautologiesHold : Type 0
 TautologiesHold = (interp : Interp) (c : Clause) → IsTautology c → Holds interp c
+
+-- two atoms are the same up to the exchange of an equation's sides, or they aren't
+abbrev pub AtomsDecide : Type 0
+AtomsDecide = (a b : Atom) → Decided (IsSameAtom a b)
+
+-- a clause is a tautology, or it isn't
+abbrev pub TautologiesDecide : Type 0
+TautologiesDecide = (c : Clause) → Decided (IsTautology c)
+
+-- a clause is within bounds, or it isn't
+abbrev pub BoundsDecide : Type 0
+BoundsDecide = (c : Clause) → Decided (IsWithinBounds c)
 
 -- a clause and its tidy form hold in the same interpretations
 abbrev pub TidyKeepsModels : Type 0

@@ -2,8 +2,8 @@
 //! the law, and the check of this crate proves it.
 #![tactic(auto)]
 
-ghost use Rattle.cd_clause.specs.Laws.{InstancesHold, TautologiesHold, TidyKeepsModels, TidyFormsAgree, RenumberingIsOneToOne, RenumberedInOrder};
-ghost use Rattle.cd_clause.specs.TidyLaws.{TidyFormsExist, TidyFormsAreTidy, TidyFormsAreSmall, TidyFormsAreOver};
+ghost use Rattle.cd_clause.specs.Laws.{AtomsDecide, TautologiesDecide, BoundsDecide, InstancesHold, TautologiesHold, TidyKeepsModels, TidyFormsAgree, RenumberingIsOneToOne, RenumberedInOrder};
+ghost use Rattle.cd_clause.specs.TidyLaws.{TidyFormsExist, TidyFormsDecide, TidyFormsAreTidy, TidyFormsAreSmall, TidyFormsAreOver};
 
 /// A clause that holds in an interpretation holds there under every substitution.
 pub fn instances()
@@ -15,6 +15,13 @@ pub fn tautologies()
     ensures { TautologiesHold }
 {}
 
+/// Two atoms are the same, a clause is a tautology, or within bounds, or it isn't so.
+pub fn decisions()
+    ensures atoms { AtomsDecide }
+    ensures tautologies { TautologiesDecide }
+    ensures bounds { BoundsDecide }
+{}
+
 /// A clause and its tidy form have the same finite models.
 pub fn tidying()
     ensures { TidyKeepsModels }
@@ -24,6 +31,7 @@ pub fn tidying()
 pub fn tidy_forms()
     ensures there { TidyFormsExist }
     ensures one { TidyFormsAgree }
+    ensures decide { TidyFormsDecide }
     ensures tidy { TidyFormsAreTidy }
     ensures small { TidyFormsAreSmall }
     ensures over { TidyFormsAreOver }

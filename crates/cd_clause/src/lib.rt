@@ -6,6 +6,7 @@
 
 ghost use Rattle.std.specs.Prelude.{◌≡◌, ◌↔◌, [], IsTrue};
 
+mod codes;
 mod instances;
 mod joining;
 pub mod laws;

@@ -3,51 +3,99 @@
 
 ghost use Rattle.std.specs.Prelude.{◌≡◌, ◌<◌, ◌^◌, length, map, IfOk, OnOk};
 ghost use Rattle.std.specs.List.{flat_map};
-ghost use Rattle.cd_term.specs.Terms.{variables_of, firsts_after, order_of, ranked, substituted};
+ghost use Rattle.cd_term.specs.Terms.{variables_of, firsts_after, order_of, rank, ranked, substituted};
 ghost use Rattle.cd_clause.specs.Clauses.{terms_of, clause_terms, atom_changed, literals_changed, renumbered_literals};
 
 use crate::{Atom, Clause, Literal, Literals};
-use cd_list::Sequence;
-use cd_term::{Args, Term, note_variables, renamed};
+use cd_term::{Args, Term};
+use indexmap::IndexSet;
 use std::alloc::{AllocError, Global};
 
-fn note_terms(terms: &[Term], seen: &mut Sequence<u32>) -> Result<(), AllocError>
-    ensures { OnOk result (seen.new ≡ firsts_after seen.old (flat_map variables_of terms.now)) }
+/// Variables in an order, each with its place.
+type Order = IndexSet<u32>;
+
+/// Adds the variables of a term that aren't there, each once, in the order of first occurrence.
+fn note(t: &Term, seen: &mut Order) -> Result<(), AllocError>
+    ensures { OnOk result (seen.new.keys ≡ firsts_after seen.old.keys (variables_of t.now)) }
+{
+    match t {
+        Term::Var(k) => {
+            seen.insert(*k)?;
+            Ok(())
+        }
+        Term::App(_, args) => {
+            for arg in args.as_slice() {
+                note(arg, seen)?;
+            }
+            Ok(())
+        }
+    }
+}
+
+fn note_terms(terms: &[Term], seen: &mut Order) -> Result<(), AllocError>
+    ensures { OnOk result (seen.new.keys ≡ firsts_after seen.old.keys (flat_map variables_of terms.now)) }
 {
     for term in terms {
-        note_variables(term, seen)?;
+        note(term, seen)?;
     }
     Ok(())
 }
 
-fn note_atom(atom: &Atom, seen: &mut Sequence<u32>) -> Result<(), AllocError>
-    ensures { OnOk result (seen.new ≡ firsts_after seen.old (flat_map variables_of (terms_of atom.now))) }
+fn note_atom(atom: &Atom, seen: &mut Order) -> Result<(), AllocError>
+    ensures { OnOk result (seen.new.keys ≡ firsts_after seen.old.keys (flat_map variables_of (terms_of atom.now))) }
 {
     match atom {
         Atom::Truth => Ok(()),
         Atom::Pred(_, args) => note_terms(args.as_slice(), seen),
         Atom::Equal(left, right) => {
-            note_variables(left, seen)?;
-            note_variables(right, seen)?;
+            note(left, seen)?;
+            note(right, seen)?;
             Ok(())
         }
     }
 }
 
 /// The variables of a list of literals in the order of first occurrence.
-fn order_in(alloc: Global, literals: &[Literal]) -> Result<Sequence<u32>, AllocError>
-    ensures { IfOk result (λ order. order ≡ order_of (clause_terms literals.now)) }
+fn order_in(alloc: Global, literals: &[Literal]) -> Result<Order, AllocError>
+    ensures { IfOk result (λ order. order.keys ≡ order_of (clause_terms literals.now)) }
 {
-    let mut seen = Sequence::new(alloc);
+    let mut seen = IndexSet::new(alloc);
     for literal in literals {
         note_atom(&literal.atom, &mut seen)?;
     }
     Ok(seen)
 }
 
-fn renamed_terms(alloc: Global, terms: &[Term], order: &[u32]) -> Result<Args, AllocError>
-    requires few { length order.now < 2 ^ 32 }
-    ensures { IfOk result (λ ts. ts ≡ map (substituted (ranked order.now)) terms.now) }
+/// The place of a variable, or the number of places where it has none.
+fn place_in(order: &Order, k: u32) -> u32
+    requires few { length order.now.keys < 2 ^ 32 }
+    ensures { result ≡ rank order.now.keys k }
+{
+    match order.get_index_of(&k) {
+        Some(place) => place as u32,
+        None => order.len() as u32,
+    }
+}
+
+fn renamed(alloc: Global, t: &Term, order: &Order) -> Result<Term, AllocError>
+    requires few { length order.now.keys < 2 ^ 32 }
+    ensures { IfOk result (λ u. u ≡ substituted (ranked order.now.keys) t.now) }
+{
+    match t {
+        Term::Var(k) => Ok(Term::Var(place_in(order, *k))),
+        Term::App(f, args) => {
+            let mut values = Args::new(alloc);
+            for arg in args.as_slice() {
+                values.push(renamed(alloc, arg, order)?)?;
+            }
+            Ok(Term::App(*f, values))
+        }
+    }
+}
+
+fn renamed_terms(alloc: Global, terms: &[Term], order: &Order) -> Result<Args, AllocError>
+    requires few { length order.now.keys < 2 ^ 32 }
+    ensures { IfOk result (λ ts. ts ≡ map (substituted (ranked order.now.keys)) terms.now) }
 {
     let mut values = Args::new(alloc);
     for term in terms {
@@ -56,9 +104,9 @@ fn renamed_terms(alloc: Global, terms: &[Term], order: &[u32]) -> Result<Args, A
     Ok(values)
 }
 
-fn renamed_atom(alloc: Global, atom: &Atom, order: &[u32]) -> Result<Atom, AllocError>
-    requires few { length order.now < 2 ^ 32 }
-    ensures { IfOk result (λ a. a ≡ atom_changed (substituted (ranked order.now)) atom.now) }
+fn renamed_atom(alloc: Global, atom: &Atom, order: &Order) -> Result<Atom, AllocError>
+    requires few { length order.now.keys < 2 ^ 32 }
+    ensures { IfOk result (λ a. a ≡ atom_changed (substituted (ranked order.now.keys)) atom.now) }
 {
     match atom {
         Atom::Truth => Ok(Atom::Truth),
@@ -73,10 +121,10 @@ fn renamed_atom(alloc: Global, atom: &Atom, order: &[u32]) -> Result<Atom, Alloc
 fn renamed_literals(
     alloc: Global,
     literals: &[Literal],
-    order: &[u32],
+    order: &Order,
 ) -> Result<Literals, AllocError>
-    requires few { length order.now < 2 ^ 32 }
-    ensures { IfOk result (λ ls. ls ≡ literals_changed (substituted (ranked order.now)) literals.now) }
+    requires few { length order.now.keys < 2 ^ 32 }
+    ensures { IfOk result (λ ls. ls ≡ literals_changed (substituted (ranked order.now.keys)) literals.now) }
 {
     let mut values = Literals::new(alloc);
     for literal in literals {
@@ -99,6 +147,6 @@ pub fn renumber(alloc: Global, c: &Clause) -> Result<Clause, AllocError>
         return Err(AllocError);
     }
     Ok(Clause {
-        literals: renamed_literals(alloc, c.literals.as_slice(), order.as_slice())?,
+        literals: renamed_literals(alloc, c.literals.as_slice(), &order)?,
     })
 }

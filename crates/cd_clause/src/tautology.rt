@@ -58,6 +58,9 @@ fn are_opposite(l: &Literal, m: &Literal) -> bool
 fn has_opposite(l: &Literal, others: &[Literal]) -> bool
     ensures { IsTrue result ↔ Among (AreOpposite l.now) others.now }
 {
+    if !l.positive {
+        return false;
+    }
     for other in others {
         if are_opposite(l, other) {
             return true;

@@ -7,12 +7,14 @@ ghost use Rattle.cd_clause.specs.declared.Literal.{Literal};
 ghost use Rattle.cd_clause.specs.Clauses.{IsSameLiteral, IsAbsurd, IsSuperfluous, AreKept, IsTidied, AreLiteralsMeasured};
 ghost use Rattle.cd_list.specs.Lists.{Among};
 
+use crate::codes::is_superfluous_behind;
 use crate::limits::measure_atom;
 use crate::renumbering::renumber;
 use crate::tautology::{is_same_atom, is_trivial_atom};
 use crate::{Clause, Literal, Literals};
 use cd_list::Copied;
 use cd_term::{MAX_LEVELS, MAX_SYMBOLS, Term};
+use indexmap::IndexSet;
 use std::alloc::{AllocError, Global};
 
 fn is_same_literal(l: &Literal, m: &Literal) -> bool
@@ -32,7 +34,7 @@ fn is_among(l: &Literal, others: &[Literal]) -> bool
     false
 }
 
-fn is_absurd(l: &Literal) -> bool
+pub(crate) fn is_absurd(l: &Literal) -> bool
     ensures { IsTrue result ↔ (IsAbsurd l.now) }
 {
     !l.positive && is_trivial_atom(&l.atom)
@@ -45,13 +47,14 @@ pub(crate) fn is_superfluous(earlier: &[Literal], l: &Literal) -> bool
     is_absurd(l) || is_among(l, earlier)
 }
 
-/// The literals that aren't superfluous.
+/// The literals that aren't superfluous. Each is looked up once among the earlier ones.
 fn kept(alloc: Global, literals: &[Literal]) -> Result<Literals, AllocError>
     ensures { IfOk result (λ ls. AreKept [] literals.now ls) }
 {
     let mut values = Literals::new(alloc);
-    for (i, literal) in literals.iter().enumerate() {
-        if is_superfluous(&literals[..i], literal) {
+    let mut met = IndexSet::new(alloc);
+    for literal in literals {
+        if is_superfluous_behind(alloc, &mut met, literal)? {
             continue;
         }
         values.push(literal.copy(alloc)?)?;

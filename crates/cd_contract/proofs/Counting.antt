@@ -31,7 +31,7 @@ pub count-App : (k f : ℕ) (ts : List Term) → count_in k (App f ts) ≡ symbo
 count-App k f ts = fold-App ℕ (count_step k) f ts ∙ ap (λ n. symbol_count k f + n) (sum-map (count_in k) ts)
 
 variable_least : (k f : ℕ) → variable_count k ≤ symbol_count k f
-variable_least k f = at (nat_eq k 3) (nat_eq (f % 3) k)
+variable_least k f = at (nat_eq k 7) (nat_eq (f % 7) k)
   where
     at : (a b : Bool) → ◌≤◌ (cond a 1 0) (cond (a || b) 1 0)
     at true b = omega arith
@@ -82,7 +82,7 @@ atom_grows k g true (Pred p args) b is = absurd is
 atom_grows k g true (Equal s t) b is = omega (arith, count_grows k g s, count_grows k g t, ap (atom_count k) is)
 
 literal_grows : (k : ℕ) (g : ℕ → Term) (e : Bool) (a b : Atom) → IsTurned e (atom_changed (substituted g) a) b → literal_count k a ≤ literal_count k b
-literal_grows k g e a b is = at (nat_eq k 3) (atom_count k a) (atom_count k b) (atom_grows k g e a b is)
+literal_grows k g e a b is = at (nat_eq k 7) (atom_count k a) (atom_count k b) (atom_grows k g e a b is)
   where
     at : (c : Bool) (m n : ℕ) → m ≤ n → ◌≤◌ (cond c 1 m) (cond c 1 n)
     at true m n le = omega arith
@@ -140,8 +140,12 @@ most_more h ls i l lt at = omega (
 
 pub at_most : (h i : ℕ → ℕ) (a b : Tally) → ((k : ℕ) → h k ≤ i k) → IsTally h a → IsTally i b → IsAtMost a b
 at_most h i a b le x y = (
-  omega (arith, le 3, x.all, y.all),
+  omega (arith, le 7, x.all, y.all),
   omega (arith, le 0, x.zero, y.zero),
   omega (arith, le 1, x.one, y.one),
   omega (arith, le 2, x.two, y.two),
+  omega (arith, le 3, x.three, y.three),
+  omega (arith, le 4, x.four, y.four),
+  omega (arith, le 5, x.five, y.five),
+  omega (arith, le 6, x.six, y.six),
 )

@@ -1,5 +1,5 @@
 -- What is refused by counts alone.
-use Rattle.std.proofs.Common.{◌≡◌, ◌≤◌, ◌⊎◌, inl, inr, ℕ, zero, suc, Bool, true, false, IsTrue, ◌↔◌, [], ◌∷◌, sum_by, map, Option, Some, None, subst, sym, refl, ◌∙◌}
+use Rattle.std.proofs.Common.{◌≡◌, ◌≤◌, ℕ, zero, suc, Bool, true, false, IsTrue, ◌↔◌, [], ◌∷◌, sum_by, map, Option, Some, None, subst, sym, refl, ◌∙◌}
 use Rattle.cd_term.specs.declared.Term.{Term}
 use Rattle.cd_term.specs.Terms.{greatest}
 use Rattle.cd_clause.specs.declared.Atom.TheVariants.{Equal}
@@ -8,14 +8,14 @@ use Rattle.cd_clause.specs.Clauses.{clause_terms}
 use Rattle.cd_clause.specs.Places.{signed, HasSides}
 use Rattle.cd_kbo.specs.declared.order.Order.{Order}
 use Rattle.cd_subsume.specs.Subsumption.{Subsumes}
-use Rattle.cd_rewrite.specs.Reduction.{HasVariablesOf, Spot, ReducesBy, Reduces}
+use Rattle.cd_rewrite.specs.Reduction.{HasVariablesOf, Spot, ReducesBy, ReducesAt}
 use Rattle.cd_rewrite.proofs.Reducts.{rule_sides}
 use Rattle.cd_rewrite.proofs.Turns.{atoms_same}
 use Rattle.cd_rewrite.proofs.FirstPlaces.{no_equation}
 use Rattle.cd_contract.specs.declared.tally.Tally.{Tally}
 use Rattle.cd_contract.specs.declared.rows.Row.{Row}
 use Rattle.cd_contract.specs.Tallies.{count_in, signed_count, IsAtMost}
-use Rattle.cd_contract.specs.Rows.{IsSideAtMost, IsMost, IsSideOf, AreSides, IsRow}
+use Rattle.cd_contract.specs.Rows.{IsSideAtMost, IsMost, IsSideOf, IsReducingSide, AreSides, IsRow}
 use Rattle.cd_contract.proofs.Counting.{subsumers_count, sides_count, at_most}
 
 -- ---- the sides of an equation
@@ -28,22 +28,33 @@ side_at_most o d c at g by most from to (Some side) is other m tally =
     at_most (λ k. count_in k from) (λ k. greatest (map (count_in k) (clause_terms c.literals))) side most
     (λ k. subst (λ t. count_in k t ≤ greatest (map (count_in k) (clause_terms c.literals))) is (sides_count o d c at g by k)) tally m
 
+left_side : (d : Clause) (s t : Term) (left : Option Tally) → d.literals ≡ signed true (Equal s t) ∷ [] → IsSideOf s t left → IsReducingSide d 0 left
+left_side d s t left is one o c most at here red m =
+    by (subst (λ n. HasSides n (Equal s t) red.1.lowers.from red.1.lowers.to) here
+    (rule_sides d at.side red.1.lowers.from red.1.lowers.to s t red.1.lowers.rule is))
+  where
+    by : Equal s t ≡ Equal red.1.lowers.from red.1.lowers.to → IsSideAtMost left most
+    by sides = (let both = atoms_same s t red.1.lowers.from red.1.lowers.to sides in
+        side_at_most o d c at red.0 red.1 most s t left (sym both.0) (sym both.1) m one)
+
+right_side : (d : Clause) (s t : Term) (right : Option Tally) → d.literals ≡ signed true (Equal s t) ∷ [] → IsSideOf t s right → IsReducingSide d 1 right
+right_side d s t right is one o c most at here red m =
+    by (subst (λ n. HasSides n (Equal s t) red.1.lowers.from red.1.lowers.to) here
+    (rule_sides d at.side red.1.lowers.from red.1.lowers.to s t red.1.lowers.rule is))
+  where
+    by : Equal s t ≡ Equal red.1.lowers.to red.1.lowers.from → IsSideAtMost right most
+    by sides = (let both = atoms_same s t red.1.lowers.to red.1.lowers.from sides in
+        side_at_most o d c at red.0 red.1 most t s right (sym both.1) (sym both.0) m one)
+
 pub sides_are : (d : Clause) (s t : Term) (left right : Option Tally) → d.literals ≡ signed true (Equal s t) ∷ [] → IsSideOf s t left → IsSideOf t s right →
     AreSides d left right
-sides_are d s t left right is one other o c most red m = by_side red.0.side red.1.1.lowers.from red.1.1.lowers.to refl refl
-    (rule_sides d red.0.side red.1.1.lowers.from red.1.1.lowers.to s t red.1.1.lowers.rule is)
-  where
-    by_side : (side : ℕ) (from to : Term) → red.1.1.lowers.from ≡ from → red.1.1.lowers.to ≡ to → HasSides side (Equal s t) from to → IsSideAtMost left most ⊎ IsSideAtMost right most
-    by_side zero from to a b sides =
-        (let both = atoms_same s t from to sides in
-        inl (side_at_most o d c red.0 red.1.0 red.1.1 most s t left (a ∙ sym both.0) (b ∙ sym both.1) m one))
-    by_side (suc zero) from to a b sides =
-        (let both = atoms_same s t to from sides in
-        inr (side_at_most o d c red.0 red.1.0 red.1.1 most t s right (a ∙ sym both.1) (b ∙ sym both.0) m other))
-    by_side (suc (suc n)) from to a b sides = absurd sides
+sides_are d s t left right is one other = record { left = left_side d s t left is one; right = right_side d s t right is other }
 
 pub no_sides : (d : Clause) → ((s t : Term) → d.literals ≡ signed true (Equal s t) ∷ [] → ⊥) → AreSides d None None
-no_sides d none o c most red m = absurd (no_equation o d c none red)
+no_sides d none = record {
+  left = λ o c most at here red m. no_equation o d c none (at, red);
+  right = λ o c most at here red m. no_equation o d c none (at, red);
+}
 
 -- ---- what a test of counts refuses
 
@@ -59,9 +70,8 @@ not_by_negative d c x y b test out mine its by =
     (λ k. subsumers_count false k d c by) mine.negative its.negative) in
     let both : true ≡ false = sym yes_ ∙ out in cc
 
-pub not_reduced : (o : Order) (d c : Clause) (x y : Row) (a b : Bool) → (IsTrue a ↔ IsSideAtMost x.left y.terms) → (IsTrue b ↔ IsSideAtMost x.right y.terms) →
-    a ≡ false → b ≡ false → IsRow d x → IsRow c y → ¬ Reduces o d c
-not_reduced o d c x y a b first second no_left no_right mine its red = elim (mine.sides o c y.terms red its.terms) [
-  | inl left ↦ (let yes_ : a ≡ true = first.1 left in let both : true ≡ false = sym yes_ ∙ no_left in cc)
-  | inr right ↦ (let yes_ : b ≡ true = second.1 right in let both : true ≡ false = sym yes_ ∙ no_right in cc)
-]
+-- a side whose counts don't fit reduces nothing
+pub not_reduced : (d c : Clause) (n : ℕ) (side : Option Tally) (most : Tally) (a : Bool) → (IsTrue a ↔ IsSideAtMost side most) → a ≡ false →
+    IsReducingSide d n side → IsMost c most → (o : Order) (at : Spot) → at.side ≡ n → ReducesAt o d c at → ⊥
+not_reduced d c n side most a test out sound m o at here red =
+    let yes_ : a ≡ true = test.1 (sound o c most at here red m) in let both : true ≡ false = sym yes_ ∙ out in cc

@@ -17,7 +17,7 @@ use cd_clause::Clause;
 use cd_kbo::Order;
 use cd_key::key_cmp;
 use cd_names::{How, Name};
-use cd_rewrite::reduces;
+use cd_rewrite::reduces_from;
 use cd_subsume::subsumes;
 use std::alloc::{AllocError, Global};
 
@@ -47,10 +47,9 @@ fn contracts(
             Ok(true)
         }
         How::Reduces => {
-            if !row.may_reduce(sought) {
-                return Ok(false);
-            }
-            let found = reduces(alloc, d, c, order)?;
+            let from_left = row.may_reduce_left(sought);
+            let from_right = row.may_reduce_right(sought);
+            let found = reduces_from(alloc, d, row.variables, from_left, from_right, c, order)?;
             Ok(found)
         }
     }

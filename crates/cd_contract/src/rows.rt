@@ -5,18 +5,19 @@ ghost use Rattle.std.specs.Prelude.{◌≡◌, false, IsTrue, ◌↔◌};
 ghost use Rattle.cd_clause.specs.declared.Clause.{Clause};
 ghost use Rattle.cd_kbo.specs.declared.order.Order.{Order};
 ghost use Rattle.cd_subsume.specs.Subsumption.{Subsumes};
-ghost use Rattle.cd_rewrite.specs.Reduction.{Reduces};
+ghost use Rattle.cd_rewrite.specs.Reduction.{Spot, ReducesAt};
 ghost use Rattle.cd_contract.specs.Rows.{IsRow, IsSideOf, AreSides, IsSideAtMost};
 
 use crate::tally::Tally;
-use cd_clause::Clause;
+use cd_clause::{Clause, variables};
 use cd_rewrite::{has_variables_of, sides_of_one};
 use cd_term::Term;
 
-/// The counts of a clause: of its literals by signs; the greatest ones of its terms; and of the sides of the equation
-/// that it may be, where they have the variables of the other side.
+/// The counts of a clause: of its literals by signs; the greatest ones of its terms; of the sides of the equation that
+/// it may be, where they have the variables of the other side; and its variables, one more than the greatest one.
 #[derive(Clone, Copy, Debug)]
 pub struct Row {
+    pub variables: u64,
     pub positive: Tally,
     pub negative: Tally,
     pub terms: Tally,
@@ -60,6 +61,7 @@ impl Row {
     {
         let (left, right) = sides(d);
         Row {
+            variables: variables(d),
             positive: Tally::of_literals(d, true),
             negative: Tally::of_literals(d, false),
             terms: Tally::of_terms(d),
@@ -75,10 +77,19 @@ impl Row {
         self.positive.is_at_most(other.positive) && self.negative.is_at_most(other.negative)
     }
 
-    /// False only where no clause of the one counts reduces a clause of the others.
-    pub fn may_reduce(&self, other: &Row) -> bool
-        ensures { result ≡ false → (o : Order) (d : Clause) (c : Clause) → IsRow d self.now → IsRow c other.now → ¬ Reduces o d c }
+    /// False only where no clause of the one counts reduces a clause of the others from its left side.
+    pub fn may_reduce_left(&self, other: &Row) -> bool
+        ensures { result ≡ false → (o : Order) (d : Clause) (c : Clause) → IsRow d self.now → IsRow c other.now →
+            (at : Spot) → at.side ≡ 0 → ¬ ReducesAt o d c at }
     {
-        fits(self.left, other.terms) || fits(self.right, other.terms)
+        fits(self.left, other.terms)
+    }
+
+    /// The same of the right side.
+    pub fn may_reduce_right(&self, other: &Row) -> bool
+        ensures { result ≡ false → (o : Order) (d : Clause) (c : Clause) → IsRow d self.now → IsRow c other.now →
+            (at : Spot) → at.side ≡ 1 → ¬ ReducesAt o d c at }
+    {
+        fits(self.right, other.terms)
     }
 }

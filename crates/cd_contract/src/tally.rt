@@ -10,24 +10,28 @@ ghost use Rattle.cd_contract.specs.Tallies.{variable_count, symbol_count, count_
 use cd_clause::{Atom, Clause, Literal};
 use cd_term::Term;
 
-/// Four counts, each up to 65,535: of all that is counted, and of the symbols whose number leaves 0, 1 and 2 when it is
-/// divided by 3.
+/// Eight counts, each up to 65,535: of all that is counted, and of the symbols whose number leaves 0, 1 and so on to 6
+/// when it is divided by 7.
 #[derive(Clone, Copy, Debug)]
 pub struct Tally {
     pub all: u16,
     pub zero: u16,
     pub one: u16,
     pub two: u16,
+    pub three: u16,
+    pub four: u16,
+    pub five: u16,
+    pub six: u16,
 }
 
 /// The class of counts that has every symbol and variable.
-const ALL: u16 = 3;
+const ALL: u16 = 7;
 
 /// 1 where a symbol is of a class, and otherwise 0.
 fn symbol(f: u16, class: u16) -> u16
     ensures { result ≡ symbol_count class f }
 {
-    if class == ALL || f % 3 == class { 1 } else { 0 }
+    if class == ALL || f % 7 == class { 1 } else { 0 }
 }
 
 /// How many symbols of a class a term has.
@@ -127,6 +131,10 @@ impl Tally {
             zero: in_term(t, 0),
             one: in_term(t, 1),
             two: in_term(t, 2),
+            three: in_term(t, 3),
+            four: in_term(t, 4),
+            five: in_term(t, 5),
+            six: in_term(t, 6),
         }
     }
 
@@ -139,6 +147,10 @@ impl Tally {
             zero: in_literals(c, sign, 0),
             one: in_literals(c, sign, 1),
             two: in_literals(c, sign, 2),
+            three: in_literals(c, sign, 3),
+            four: in_literals(c, sign, 4),
+            five: in_literals(c, sign, 5),
+            six: in_literals(c, sign, 6),
         }
     }
 
@@ -151,6 +163,10 @@ impl Tally {
             zero: most_in_clause(c, 0),
             one: most_in_clause(c, 1),
             two: most_in_clause(c, 2),
+            three: most_in_clause(c, 3),
+            four: most_in_clause(c, 4),
+            five: most_in_clause(c, 5),
+            six: most_in_clause(c, 6),
         }
     }
 
@@ -162,5 +178,9 @@ impl Tally {
             && self.zero <= other.zero
             && self.one <= other.one
             && self.two <= other.two
+            && self.three <= other.three
+            && self.four <= other.four
+            && self.five <= other.five
+            && self.six <= other.six
     }
 }

@@ -9,3 +9,6 @@ pub mod PathOrder
 pub mod Usable
 pub mod MarkLemmas
 pub mod Apart
+pub mod RunLemmas
+pub mod Choosing
+pub mod Existing

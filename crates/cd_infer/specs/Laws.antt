@@ -1,6 +1,6 @@
 -- What is said of all conclusions: each is what its step gives, at most one list fits, and whatever follows by any
--- Beyond the headline: no clause of `prove` reaches this file.
 -- substitution is an instance of what is listed. Each is the contract of a function of the module `laws`.
+-- Beyond the headline: no clause of `prove` reaches this file.
 use Rattle.std.specs.Prelude.{◌≡◌, ◌↔◌, ℕ, List, [], ◌∷◌, map, Some, None}
 use Rattle.std.specs.List.{AllByRecursion}
 use Rattle.std.specs.Cmp.Lexicographic.{slice_cmp}

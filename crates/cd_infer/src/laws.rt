@@ -3,6 +3,7 @@
 #![tactic(auto)]
 
 ghost use Rattle.cd_infer.specs.Laws.{ResolventsAreMostGeneral, FactorsAreMostGeneral, ReflexivesAreMostGeneral, EqualityFactorsAreMostGeneral, ParamodulantsAreMostGeneral, SolosConcludeOnce, PairsConcludeOnce, SolosAreSteps, PairsAreSteps, SolosAreListed, PairsAreListed, SolosAreWithin, PairsAreWithin, PathsAreSymbols, AtomPathsAreSymbols, TidyClausesAreUsable};
+ghost use Rattle.cd_infer.specs.RunLaws.{SolosAreInferences, PairsAreInferences, SolosStayOver, PairsStayOver, SolosExist, PairsExist, BoundsDecide};
 
 /// Whatever follows by a rule with any substitution is an instance of what is concluded.
 pub fn most_general()
@@ -19,6 +20,24 @@ pub fn one_list()
     ensures pair { PairsConcludeOnce }
 {}
 
+/// Every clause, and every two clauses, have a list of conclusions.
+pub fn lists()
+    ensures solo { SolosExist }
+    ensures pair { PairsExist }
+{}
+
+/// Each conclusion's step is an inference on the clauses that are named, in their order.
+pub fn inferences()
+    ensures solo { SolosAreInferences }
+    ensures pair { PairsAreInferences }
+{}
+
+/// Conclusions are over the symbols of their clauses.
+pub fn symbols()
+    ensures solo { SolosStayOver }
+    ensures pair { PairsStayOver }
+{}
+
 /// Each conclusion is what its step gives of the clauses.
 pub fn steps()
     ensures solo { SolosAreSteps }
@@ -32,10 +51,11 @@ pub fn complete()
 {}
 
 /// Where all conclusions are within bounds, no place gives one out of bounds: of a list and `OutOfBounds` at most one
-/// is right.
+/// is right. A conclusion is within bounds, or it isn't.
 pub fn bounds()
     ensures solo { SolosAreWithin }
     ensures pair { PairsAreWithin }
+    ensures decide { BoundsDecide }
 {}
 
 /// The paths of a term and of an atom are those that lead to a symbol, in the order of lists.

@@ -68,14 +68,14 @@ refused o s t base b decides no_more = (λ h. absurd (differ h), λ g. sym no_mo
     differ : false ≡ true → ⊥
     differ e = cc
 
-pub first_block : (o : Order) (s t : Term) → GreaterOn (InBlock 0) o s t → GreaterOn (Below 64) o s t
-first_block o s t = fewer (InBlock 0) (Below 64) o s t (λ k v. record { above = omega arith; below = omega (arith, v) })
+pub first_block : (o : Order) (s t : Term) → GreaterOn (InBlock 0) o s t → GreaterOn (Below 16) o s t
+first_block o s t = fewer (InBlock 0) (Below 16) o s t (λ k v. record { above = omega arith; below = omega (arith, v) })
 
 pub next_block : (o : Order) (s t : Term) (from n : ℕ) → ((k : ℕ) → from ≤ k → k < n → occurrences k t ≡ 0) →
-    GreaterOn (Below from) o s t → GreaterOn (InBlock n) o s t → GreaterOn (Below (n + 64)) o s t
-next_block o s t from n none = joined (Below from) (InBlock n) (Below (n + 64)) o s t split
+    GreaterOn (Below from) o s t → GreaterOn (InBlock n) o s t → GreaterOn (Below (n + 16)) o s t
+next_block o s t from n none = joined (Below from) (InBlock n) (Below (n + 16)) o s t split
   where
-    split : (k : ℕ) → k < n + 64 → ((k < from) ⊎ InBlock n k) ⊎ (occurrences k t ≡ 0)
+    split : (k : ℕ) → k < n + 16 → ((k < from) ⊎ InBlock n k) ⊎ (occurrences k t ≡ 0)
     split k lt = ⊎_elim {C = ((k < from) ⊎ InBlock n k) ⊎ (occurrences k t ≡ 0)}
         (λ (old : k < from). inl (inl old))
         (λ (past : from ≤ k). ⊎_elim {C = ((k < from) ⊎ InBlock n k) ⊎ (occurrences k t ≡ 0)}

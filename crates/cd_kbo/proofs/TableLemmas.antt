@@ -12,19 +12,19 @@ use Rattle.cd_kbo.proofs.Small.{occurrences_small}
 -- what a table holds once the occurrences in a term were added
 abbrev pub IsTallied : ℕ → Term → List ℕ → List ℕ → Type 0
 IsTallied base t old new =
-    (k : ℕ) → k < 64 → get_or new k 0 ≡ min (get_or old k 0 + occurrences (base + k) t) (2 ^ 64 - 1)
+    (k : ℕ) → k < 16 → get_or new k 0 ≡ min (get_or old k 0 + occurrences (base + k) t) (2 ^ 64 - 1)
 
 -- a table has room for the occurrences in a term
 abbrev pub HasRoom : Term → List ℕ → Type 0
-HasRoom t old = (k : ℕ) → k < 64 → get_or old k 0 + size_of t < 2 ^ 33
+HasRoom t old = (k : ℕ) → k < 16 → get_or old k 0 + size_of t < 2 ^ 33
 
 pub tables_cover : (base : ℕ) (s t : Term) (old_left old_right left right : List ℕ) →
-    ((k : ℕ) → k < 64 → get_or old_left k 0 ≡ get_or old_right k 0) → HasRoom s old_left → HasRoom t old_right →
+    ((k : ℕ) → k < 16 → get_or old_left k 0 ≡ get_or old_right k 0) → HasRoom s old_left → HasRoom t old_right →
     IsTallied base s old_left left → IsTallied base t old_right right →
-    ((k : ℕ) → k < 64 → get_or right k 0 ≤ get_or left k 0) → Covers (InBlock base) s t
+    ((k : ℕ) → k < 16 → get_or right k 0 ≤ get_or left k 0) → Covers (InBlock base) s t
 tables_cover base s t old_left old_right left right alike room_s room_t tallied_s tallied_t below = record {
   at_each = λ k v.
-      let lt : k - base < 64 = omega (arith, v.above, v.below) in
+      let lt : k - base < 16 = omega (arith, v.above, v.below) in
       let is : base + (k - base) ≡ k = omega (arith, v.above) in
       subst (λ n. occurrences n t ≤ occurrences n s) is (omega (
         arith,
@@ -40,9 +40,9 @@ tables_cover base s t old_left old_right left right alike room_s room_t tallied_
 }
 
 pub covers_tables : (base : ℕ) (s t : Term) (old_left old_right left right : List ℕ) →
-    ((k : ℕ) → k < 64 → get_or old_left k 0 ≡ get_or old_right k 0) →
+    ((k : ℕ) → k < 16 → get_or old_left k 0 ≡ get_or old_right k 0) →
     IsTallied base s old_left left → IsTallied base t old_right right →
-    Covers (InBlock base) s t → (k : ℕ) → k < 64 → get_or right k 0 ≤ get_or left k 0
+    Covers (InBlock base) s t → (k : ℕ) → k < 16 → get_or right k 0 ≤ get_or left k 0
 covers_tables base s t old_left old_right left right alike tallied_s tallied_t covers k lt =
     let here : occurrences (base + k) t ≤ occurrences (base + k) s = covers.at_each (base + k) (record { above = omega arith; below = omega arith }) in
     omega (arith, alike k lt, tallied_s k lt, tallied_t k lt)

@@ -1,4 +1,4 @@
--- Variables taken 64 at a time.
+-- Variables taken 16 at a time.
 -- Beyond the headline: no clause of `prove` reaches this file.
 use Rattle.std.specs.Prelude.{ℕ, ◌≡◌, ◌+◌, ◌<◌, ◌≤◌, min, Option, Some, None}
 use Rattle.cd_kbo.specs.declared.sides.Side.{Side}
@@ -7,7 +7,7 @@ use Rattle.cd_kbo.specs.declared.sides.Side.TheVariants.{Variable, Symbol}
 -- a variable of the block that begins at a number
 pub record InBlock (base k : ℕ) : Type 0 where
   pub above : base ≤ k
-  pub below : k < base + 64
+  pub below : k < base + 16
 
 -- the least number from a first one on that has a count, or nothing where none has
 abbrev pub IsNext : ℕ → (ℕ → ℕ) → Option ℕ → Type 0

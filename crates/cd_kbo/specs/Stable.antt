@@ -1,6 +1,6 @@
 -- The laws of the Knuth-Bendix order that rewriting is built on. Each is the contract of a function of the module
--- Beyond the headline: no clause of `prove` reaches this file.
 -- `laws`.
+-- Beyond the headline: no clause of `prove` reaches this file.
 use Rattle.std.specs.Prelude.{ℕ, IsTrue}
 use Rattle.cd_term.specs.declared.Term.{Term}
 use Rattle.cd_term.specs.Terms.{substituted, occurs}

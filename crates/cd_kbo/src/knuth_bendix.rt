@@ -5,7 +5,7 @@
 //! occurrences of variables in tables that are passed down. What stands before the first difference is the same
 //! in both terms and adds as much to either table, so at each level of the first difference the tables tell
 //! whether the variables of one side cover those of the other, and nothing is counted again. Where a term has
-//! only variables below 64, one walk decides. The others are taken 64 at a time by one more walk for each such
+//! only variables below 16, one walk decides. The others are taken 16 at a time by one more walk for each such
 //! block in which the smaller term has a variable, so there are no more walks than distinct variables, and one.
 #![tactic(auto)]
 
@@ -31,8 +31,8 @@ struct Walked {
 }
 
 /// Whether the weights decide, or at equal weights what follows, and the counts of variables allow it.
-fn decided(heavy: u64, light: u64, rest: bool, left: &[u64; 64], right: &[u64; 64]) -> bool
-    ensures { IsTrue result ↔ (((k : ℕ) → k < 64 → slice_index right.now k ≤ slice_index left.now k)
+fn decided(heavy: u64, light: u64, rest: bool, left: &[u64; 16], right: &[u64; 16]) -> bool
+    ensures { IsTrue result ↔ (((k : ℕ) → k < 16 → slice_index right.now k ≤ slice_index left.now k)
         × ((light < heavy) ⊎ ((light ≡ heavy) × (rest ≡ true)))) }
 {
     if light > heavy || (light == heavy && !rest) {
@@ -51,28 +51,28 @@ fn is_same_variable(s: Side, t: Side) -> bool
     }
 }
 
-/// Compares two terms by the variables `base` to `base + 63`, weighs them, and adds the occurrences of these
+/// Compares two terms by the variables `base` to `base + 15`, weighs them, and adds the occurrences of these
 /// variables to two tables that were the same, in one pass.
 fn walk(
     s: Side,
     t: Side,
     order: &Order,
     base: u64,
-    left: &mut [u64; 64],
-    right: &mut [u64; 64],
+    left: &mut [u64; 16],
+    right: &mut [u64; 16],
 ) -> Walked
     requires small_left { size_of (term_of s) < 2 ^ 32 }
     requires small_right { size_of (term_of t) < 2 ^ 32 }
-    requires alike { (k : ℕ) → k < 64 → slice_index left.old k ≡ slice_index right.old k }
-    requires room_left { (k : ℕ) → k < 64 → slice_index left.old k + size_of (term_of s) < 2 ^ 33 }
-    requires room_right { (k : ℕ) → k < 64 → slice_index right.old k + size_of (term_of t) < 2 ^ 33 }
+    requires alike { (k : ℕ) → k < 16 → slice_index left.old k ≡ slice_index right.old k }
+    requires room_left { (k : ℕ) → k < 16 → slice_index left.old k + size_of (term_of s) < 2 ^ 33 }
+    requires room_right { (k : ℕ) → k < 16 → slice_index right.old k + size_of (term_of t) < 2 ^ 33 }
     ensures same { IsTrue result.same ↔ (term_of s.entry ≡ term_of t.entry) }
     ensures greater { IsTrue result.is_greater ↔ GreaterOn (InBlock base) order.now (term_of s.entry) (term_of t.entry) }
     ensures heavy { result.heavy ≡ min (weight_of order.now (term_of s.entry)) (2 ^ 64 - 1) }
     ensures light { result.light ≡ min (weight_of order.now (term_of t.entry)) (2 ^ 64 - 1) }
-    ensures left { (k : ℕ) → k < 64 → slice_index left.new k ≡
+    ensures left { (k : ℕ) → k < 16 → slice_index left.new k ≡
         min (slice_index left.old k + occurrences (base + k) (term_of s.entry)) (2 ^ 64 - 1) }
-    ensures right { (k : ℕ) → k < 64 → slice_index right.new k ≡
+    ensures right { (k : ℕ) → k < 16 → slice_index right.new k ≡
         min (slice_index right.old k + occurrences (base + k) (term_of t.entry)) (2 ^ 64 - 1) }
 {
     match (s, t) {
@@ -127,14 +127,14 @@ fn walk(
     }
 }
 
-/// Whether `s` is greater than `t` as far as the variables `base` to `base + 63` tell.
+/// Whether `s` is greater than `t` as far as the variables `base` to `base + 15` tell.
 fn block_greater(s: Side, t: Side, order: &Order, base: u64) -> bool
     requires left { size_of (term_of s) < 2 ^ 32 }
     requires right { size_of (term_of t) < 2 ^ 32 }
     ensures { IsTrue result ↔ GreaterOn (InBlock base) order.now (term_of s.entry) (term_of t.entry) }
 {
-    let mut left = [0; 64];
-    let mut right = [0; 64];
+    let mut left = [0; 16];
+    let mut right = [0; 16];
     walk(s, t, order, base, &mut left, &mut right).is_greater
 }
 
@@ -148,19 +148,19 @@ pub fn side_greater(s: Side, t: Side, order: &Order) -> bool
     if !block_greater(s, t, order, 0) {
         return false;
     }
-    let mut from: u64 = 64;
+    let mut from: u64 = 16;
     while let Some(base) = next_variable(t, from) {
         let base = u64::from(base);
         if !block_greater(s, t, order, base) {
             return false;
         }
-        from = base + 64;
+        from = base + 16;
     }
     true
 }
 
 /// Whether `s` is greater than `t` in the Knuth-Bendix order. No memory is taken. The time is linear in the sizes
-/// where all variables of `t` are below 64, and otherwise at most that for each distinct variable.
+/// where all variables of `t` are below 16, and otherwise at most that for each distinct variable.
 /// Recurs to the depth of its terms: see 'How deep terms may be' in docs/ARCHITECTURE.md.
 pub fn greater(s: &Term, t: &Term, order: &Order) -> bool
     requires left { size_of s.now < 2 ^ 32 }

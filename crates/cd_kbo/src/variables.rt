@@ -1,4 +1,4 @@
-//! Occurrences of variables, counted for 64 variables at a time.
+//! Occurrences of variables, counted for 16 variables at a time.
 #![tactic(auto)]
 
 ghost use Rattle.std.specs.Prelude.{◌≡◌, ◌+◌, ◌-◌, ◌^◌, ◌<◌, ◌≤◌, ◌↔◌, ℕ, min, nat_eq, if◌then◌else◌, IsTrue, slice_index};
@@ -10,8 +10,8 @@ use crate::weights::symbol_weight;
 use crate::{Order, Side};
 
 /// Counts one variable, where it is in the block that begins at `base`. A count stops at the greatest u64.
-fn mark(n: u32, base: u64, table: &mut [u64; 64])
-    ensures { (k : ℕ) → k < 64 → slice_index table.new k ≡
+fn mark(n: u32, base: u64, table: &mut [u64; 16])
+    ensures { (k : ℕ) → k < 16 → slice_index table.new k ≡
         min (slice_index table.old k + (if nat_eq n (base + k) then 1 else 0)) (2 ^ 64 - 1) }
 {
     let n = u64::from(n);
@@ -19,17 +19,17 @@ fn mark(n: u32, base: u64, table: &mut [u64; 64])
         return;
     }
     let place = n - base;
-    if place < 64 {
+    if place < 16 {
         let place = place as usize;
         table[place] = table[place].saturating_add(1);
     }
 }
 
-/// Weighs a term, and adds the occurrences of the variables `base` to `base + 63` to a table, in one pass. Sums
+/// Weighs a term, and adds the occurrences of the variables `base` to `base + 15` to a table, in one pass. Sums
 /// stop at the greatest u64.
-pub fn weigh(s: Side, order: &Order, base: u64, table: &mut [u64; 64]) -> u64
+pub fn weigh(s: Side, order: &Order, base: u64, table: &mut [u64; 16]) -> u64
     ensures weight { result ≡ min (weight_of order.now (term_of s.entry)) (2 ^ 64 - 1) }
-    ensures table { (k : ℕ) → k < 64 → slice_index table.new k ≡
+    ensures table { (k : ℕ) → k < 16 → slice_index table.new k ≡
         min (slice_index table.old k + occurrences (base + k) (term_of s.entry)) (2 ^ 64 - 1) }
 {
     match s {
@@ -48,10 +48,10 @@ pub fn weigh(s: Side, order: &Order, base: u64, table: &mut [u64; 64]) -> u64
 }
 
 /// Whether no count of the second table is above that of the first.
-pub fn is_covered(left: &[u64; 64], right: &[u64; 64]) -> bool
-    ensures { IsTrue result ↔ ((k : ℕ) → k < 64 → slice_index right.now k ≤ slice_index left.now k) }
+pub fn is_covered(left: &[u64; 16], right: &[u64; 16]) -> bool
+    ensures { IsTrue result ↔ ((k : ℕ) → k < 16 → slice_index right.now k ≤ slice_index left.now k) }
 {
-    for k in 0..64 {
+    for k in 0..16 {
         if left[k] < right[k] {
             return false;
         }

@@ -5,3 +5,5 @@ pub mod RepeatLemmas
 pub mod BoundLemmas
 pub mod FallLemmas
 pub mod Parts
+pub mod EligibleLiterals
+pub mod LiteralOrder

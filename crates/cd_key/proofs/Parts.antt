@@ -1,12 +1,11 @@
 -- The ground forms of a clause: with a literal left out, and with variables renamed.
-use Rattle.std.proofs.Common.{◌≡◌, ◌≢◌, ℕ, ◌+◌, ◌<◌, Bool, true, false, cond, if◌then◌else◌, List, [], ◌∷◌, ◌++◌, map, Option, Some, None, ap, subst, refl, sym, ◌∙◌, arith}
-use Rattle.std.specs.Option.{option_cmp}
+use Rattle.std.proofs.Common.{◌≡◌, ◌≢◌, ℕ, ◌+◌, ◌<◌, Bool, true, false, cond, if◌then◌else◌, List, [], ◌∷◌, ◌++◌, map, ap, refl, sym, ◌∙◌, arith}
 use Rattle.std.specs.Cmp.{IsTotalOrder}
 use Rattle.std.specs.Cmp.Lexicographic.{slice_cmp}
 use Rattle.std.specs.Ordering.{nat_cmp, ordering_then, is_lt, is_eq, bool_cmp, flip_args}
 use Rattle.std.specs.declared.cmp.Ordering.{Ordering}
 use Rattle.std.specs.declared.cmp.Ordering.TheVariants.{Less, Equal, Greater}
-use Rattle.std.proofs.lemmas.Cmp.{tied_itself, tied_back, alike_right}
+use Rattle.std.proofs.lemmas.Cmp.{tied_itself, alike_right}
 use Rattle.std.proofs.lemmas.List.Sums.{sum_by-append}
 use Rattle.cd_term.specs.declared.Term.{Term}
 use Rattle.cd_term.specs.declared.Term.TheVariants.{Var, App}
@@ -15,23 +14,20 @@ use Rattle.cd_term.proofs.Equations.{substituted-Var, substituted-App}
 use Rattle.cd_term.proofs.Substitutions.{substituted-same, substituted-substituted}
 use Rattle.cd_clause.specs.declared.Atom.{Atom}
 use Rattle.cd_clause.specs.declared.Atom.TheVariants.{Truth, Pred, Equal as Equation}
-use Rattle.cd_clause.specs.declared.Literal.{Literal}
-use Rattle.cd_clause.specs.declared.Clause.{Clause}
-use Rattle.cd_clause.specs.Clauses.{atom_changed, literal_changed, literals_changed}
+use Rattle.cd_clause.specs.Clauses.{atom_changed, literal_changed}
 use Rattle.cd_kbo.specs.declared.order.Order.{Order}
 use Rattle.cd_kbo.specs.Kbo.{ground_compare}
 use Rattle.cd_kbo.specs.Laws.{grounded}
 use Rattle.cd_kbo.proofs.Orderings.{is_less}
 use Rattle.cd_kbo.proofs.GroundLemmas.{ground_total}
 use Rattle.cd_kbo.proofs.LawsOfOrders.{ground_laws}
-use Rattle.cd_names.specs.declared.names.Name.{Name}
-use Rattle.cd_key.specs.Forms.{greater_term, lesser_term, greater_side, lesser_side, literal_compare}
+use Rattle.cd_key.specs.Forms.{greater_term, lesser_term, literal_compare}
 use Rattle.cd_key.specs.Multisets.{sorted_down, count_of}
-use Rattle.cd_key.specs.Keys.{key_of, key_compare, forms_compare}
-use Rattle.cd_key.specs.Parts.{FormsBelow, FormsNotAbove, AreFormsOrdered, FormsDecideKeys, FormsFall, FewerFormsFall, RenamedFormsTie}
+use Rattle.cd_key.specs.Keys.{forms_compare}
+use Rattle.cd_key.specs.Parts.{AreFormsOrdered, FormsDecideKeys, FormsFall, FewerFormsFall, RenamedFormsTie}
 use Rattle.cd_key.proofs.FormLemmas.{forms_total, clause_total}
 use Rattle.cd_key.proofs.FallLemmas.{item_falls}
-use Rattle.cd_key.proofs.MultisetLemmas.{count-cons, back_less, back_greater, count_decides, same_counts, sorted_is_down, count_sorted}
+use Rattle.cd_key.proofs.MultisetLemmas.{count-cons, back_less, count_decides, same_counts, sorted_is_down, count_sorted}
 
 -- ---- orders where one of two isn't greater
 

@@ -1,6 +1,6 @@
 -- The laws of literals and keys that other crates build on. Each is the contract of a function of the module
--- Beyond the headline: no clause of `prove` reaches this file.
 -- `laws`.
+-- Beyond the headline: no clause of `prove` reaches this file.
 use Rattle.std.specs.Prelude.{ℕ, ◌≡◌, ◌≢◌, Bool, List, ◌∷◌, ◌++◌, Option}
 use Rattle.std.specs.Cmp.{IsTotalOrder}
 use Rattle.std.specs.declared.cmp.Ordering.TheVariants.{Less}

@@ -5,3 +5,4 @@ pub mod Repeats
 pub mod Keys
 pub mod Laws
 pub mod Parts
+pub mod Eligibility

@@ -3,6 +3,7 @@
 #![tactic(auto)]
 
 ghost use Rattle.cd_key.specs.Parts.{FormsAreOrdered, FormsDecideKeys, FormsFall, FewerFormsFall, RenamedFormsTie};
+ghost use Rattle.cd_key.specs.Eligibility.{LiteralsAreOrdered, SomeLiteralIsEligible, EligibilityDecides};
 ghost use Rattle.cd_key.specs.Laws.{BoundedClausesCompare, LiteralFormsAreOrdered, KeysAreOrdered, NamesDecide, LiteralsFall, KeysFall};
 
 /// Clauses within bounds can be compared.
@@ -32,4 +33,15 @@ pub fn first_parts()
     ensures fall { FormsFall }
     ensures fewer { FewerFormsFall }
     ensures renamed { RenamedFormsTie }
+{}
+
+/// The order of literals is strict where there are no variables, and the ground forms go with it.
+pub fn literal_order()
+    ensures { LiteralsAreOrdered }
+{}
+
+/// A literal is eligible or not, and some literal of a clause that isn't empty is.
+pub fn eligible_literals()
+    ensures there { SomeLiteralIsEligible }
+    ensures decide { EligibilityDecides }
 {}

@@ -1,5 +1,8 @@
 pub mod Premises
-pub mod Right
-pub mod Formed
-pub mod Models
-pub mod Accounts
+pub mod Sound
+pub mod Statements
+pub mod Closing
+pub mod Rooted
+pub mod Measure
+pub mod Schedule
+pub mod Turns

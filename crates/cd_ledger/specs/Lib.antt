@@ -1,4 +1,2 @@
-pub mod Lean
-pub mod Names
-pub mod Machine
-pub mod World
+pub mod Records
+pub mod Statuses

@@ -1,6 +1,4 @@
 -- Bytes by their ASCII codes.
--- Beyond the headline: no clause of `prove` reaches Bytes, is_among, is_dollar, is_plus_or_minus, is_point,
---   is_exponent_letter, is_sign, is_other, is_blank.
 use Rattle.std.specs.Prelude.{◌==◌, ◌&&◌, ◌||◌, ℕ, Bool, nat_le, List, codes}
 use Rattle.std.specs.List.{list_any}
 

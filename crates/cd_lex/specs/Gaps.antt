@@ -1,5 +1,4 @@
 -- Blanks and comments, which stand between tokens.
--- Beyond the headline: no clause of `prove` reaches this file.
 use Rattle.std.specs.Prelude.{◌≡◌, ◌≢◌, ◌+◌, ◌++◌, ◌∷◌, [], ℕ, true, false, length, drop}
 use Rattle.cd_lex.specs.Bytes.{Bytes, is_among, is_blank}
 

@@ -1,5 +1,4 @@
 -- What comes next in the bytes, from a place on: a token, nothing, or a fault.
--- Beyond the headline: no clause of `prove` reaches this file.
 use Rattle.std.specs.Prelude.{◌≡◌, ◌≢◌, ◌⊎◌, ◌+◌, ◌<◌, ◌++◌, ◌∷◌, [], ℕ, length, drop}
 use Rattle.cd_lex.specs.declared.TokenKind.{TokenKind}
 use Rattle.cd_lex.specs.declared.LexFault.{LexFault}

@@ -1,5 +1,4 @@
 -- Which bytes are a token of which kind, and which token stands at a place: the longest.
--- Beyond the headline: no clause of `prove` reaches this file.
 use Rattle.std.specs.Prelude.{◌≡◌, ◌≢◌, ◌⊎◌, ◌≤◌, ◌++◌, ◌∷◌, [], ℕ, Bool, true, length, codes}
 use Rattle.std.specs.List.{list_all}
 use Rattle.cd_lex.specs.declared.TokenKind.{TokenKind}

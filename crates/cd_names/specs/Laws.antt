@@ -1,6 +1,6 @@
 -- The laws of names, stamps and owners that other crates build on. Each is the contract of a function of the
--- Beyond the headline: no clause of `prove` reaches this file.
 -- module `laws`.
+-- Beyond the headline: no clause of `prove` reaches this file.
 use Rattle.std.specs.Prelude.{ℕ, ◌≡◌, ◌≢◌, ◌<◌}
 use Rattle.std.specs.Cmp.{IsTotalOrder}
 use Rattle.std.specs.declared.cmp.Ordering.{Ordering}

@@ -1,8 +1,8 @@
 -- States without their texts and trees, and how many words were read.
--- Beyond the headline: no clause of `prove` reaches this file.
 --
 -- While a clause may be within bounds the reader keeps its trees. Once it has too many words, what the reader
 -- keeps differs from the state of the machine in texts and trees, on which nothing that is read depends.
+-- Beyond the headline: no clause of `prove` reaches this file.
 use Rattle.std.specs.Prelude.{◌+◌, [], ◌∷◌, ℕ, List, Option, None, Some, sum_by}
 use Rattle.cd_parse.specs.declared.terminal.Terminal.{Terminal}
 use Rattle.cd_parse.specs.declared.terminal.Terminal.TheVariants.{Word, Upper}

@@ -1,5 +1,4 @@
 -- The grammar of a formula, on tokens.
--- Beyond the headline: no clause of `prove` reaches this file.
 use Rattle.std.specs.Prelude.{◌++◌, ◌∷◌, [], ℕ, suc, Bool, true, false, not, List, if◌then◌else◌}
 use Rattle.cd_parse.specs.declared.terminal.Terminal.{Terminal}
 use Rattle.cd_parse.specs.declared.terminal.Terminal.TheVariants.{Word, Upper, Truth, Sign}

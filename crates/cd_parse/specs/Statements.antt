@@ -1,5 +1,4 @@
 -- The grammar of a statement, and what could come next in one.
--- Beyond the headline: no clause of `prove` reaches this file.
 use Rattle.std.specs.Prelude.{◌≡◌, ◌≢◌, ◌⊎◌, ◌++◌, ◌∷◌, [], ℕ, Bool, true, false, List, None, Some, codes}
 use Rattle.cd_parse.specs.declared.terminal.Terminal.{Terminal}
 use Rattle.cd_parse.specs.declared.terminal.Terminal.TheVariants.{Word, Upper, Truth, Digits, Foreign, Sign}

@@ -1,6 +1,6 @@
 -- The machine that reads a formula: what it does with a token.
--- Beyond the headline: no clause of `prove` reaches this file.
 -- The innermost parenthesis and the innermost list of arguments stand first.
+-- Beyond the headline: no clause of `prove` reaches this file.
 use Rattle.std.specs.Prelude.{◌++◌, ◌∷◌, [], ℕ, zero, suc, Bool, true, false, not, List, Option, None, Some}
 use Rattle.cd_parse.specs.declared.terminal.Terminal.{Terminal}
 use Rattle.cd_parse.specs.declared.terminal.Terminal.TheVariants.{Word, Upper, Truth, Digits, Foreign, Sign}

@@ -1,5 +1,4 @@
 -- How many words trees have.
--- Beyond the headline: no clause of `prove` reaches this file.
 use Rattle.std.specs.Prelude.{ℕ, ◌+◌, List, sum, sum_by}
 use Rattle.cd_parse.specs.declared.tree.Tree.{Tree, fold-Tree}
 use Rattle.cd_parse.specs.declared.tree.Tree.TheOpen.{Tree-F}

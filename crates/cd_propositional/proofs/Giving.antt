@@ -1,5 +1,5 @@
 -- What a call gives of a step.
-use Rattle.std.proofs.Common.{◌≡◌, Option, Some, None, Result, Ok, Err, subst}
+use Rattle.std.proofs.Common.{◌≡◌, Option, None, Result, Ok, subst}
 use Rattle.cd_term.specs.declared.TermFault.{TermFault}
 use Rattle.cd_clause.specs.declared.Clause.{Clause}
 use Rattle.cd_steps.specs.Bounds.{AnswersGiven}

@@ -1,5 +1,9 @@
-pub mod Words
+pub mod Meaning
 pub mod Files
-pub mod Scanned
-pub mod Problems
+pub mod Formed
 pub mod Fetched
+pub mod Laws
+pub mod Bounds
+pub mod Overflow
+pub mod Labels
+pub mod States

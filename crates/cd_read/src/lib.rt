@@ -1,16 +1,17 @@
-//! Reading a problem: from the bytes of a file to its symbols and clauses.
+//! A problem read through a library: its file, and the files that this one includes.
 //!
-//! `specs/Files.antt` says which bytes are a file that is read, and `specs/Problems.antt` which problem its
-//! statements give. So far a file is a sequence of lines `cnf(WORD,axiom,LITERAL | LITERAL).`, each with one
-//! literal or more over propositional atoms; every other file is refused as a whole.
+//! `specs/Meaning.antt` says which clause the literals of a statement give, and `specs/Files.antt` what files
+//! that were fetched one after another come to. `specs/Fetched.antt` says what a library tells of them.
 #![tactic(auto)]
 
-mod build;
+mod labels;
+pub mod laws;
+mod measuring;
+mod numbering;
 mod problem;
 mod reader;
-mod scan;
-mod statement;
+mod state;
 
-pub use problem::{Input, Inputs, Label, Problem, Role, What, Wrong};
-pub use reader::{ReadFault, read_problem};
-pub use statement::{SignedWord, SignedWords, Statement, Statements};
+pub use cd_parse::{Label, Labels, Role, What};
+pub use problem::{Input, Inputs, Problem, Wrong};
+pub use reader::{ReadFault, read_counted, read_problem};

@@ -1,22 +1,11 @@
-//! Problems, and why a file gives none.
+//! Problems.
 ghost use Rattle.std.specs.Prelude.{◌≡◌};
 
 use cd_clause::Clause;
 use cd_list::{Copied, Sequence, Text};
+use cd_parse::{Label, Role, What};
 use cd_symbols::Symbols;
 use std::alloc::{AllocError, Global};
-
-/// What an input is called in its file.
-#[derive(Drop)]
-pub enum Label {
-    Word(Text),
-}
-
-/// What an input is said to be. All roles are read as clauses of the problem.
-#[derive(Clone, Copy)]
-pub enum Role {
-    Axiom,
-}
 
 /// A clause of a problem, and where it comes from: its label and its role in the file with this path.
 #[derive(Drop)]
@@ -37,27 +26,12 @@ pub struct Problem {
     pub inputs: Inputs,
 }
 
-/// What is wrong with a file.
-#[derive(Clone, Copy)]
-pub enum What {
-    /// It isn't of the form that is read so far. The place is byte 0.
-    NotBuilt,
-}
-
 /// A fault in a file, and its place as a byte offset from 0.
 #[derive(Drop)]
 pub struct Wrong {
     pub what: What,
     pub file: Text,
     pub at: u32,
-}
-
-impl Copied for Label {
-    fn copy(&self, alloc: Global) -> Result<Label, AllocError> {
-        match self {
-            Label::Word(word) => Ok(Label::Word(word.copy(alloc)?)),
-        }
-    }
 }
 
 impl Copied for Wrong {
@@ -68,4 +42,11 @@ impl Copied for Wrong {
             at: self.at,
         })
     }
+}
+
+fn shares<T: Sync>(_value: &T) {}
+
+// Threads may share a problem.
+fn share(problem: &Problem) {
+    shares(problem);
 }

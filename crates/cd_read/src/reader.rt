@@ -1,17 +1,19 @@
-//! Reads a problem through a library.
-ghost use Rattle.std.specs.Prelude.{◌≡◌, ◌≤◌, ◌↔◌, List, length, IsTrue, IfOk, IfErr, IfSome, IfNone, Ok};
+//! A file and the files that it includes.
+ghost use Rattle.std.specs.Prelude.{◌≡◌, ◌<◌, ◌≤◌, ◌*◌, ℕ, List, length, IfOk, IfErr, OnOk};
 ghost use Rattle.cd_outside.specs.Outside.{Rose};
-ghost use Rattle.cd_read.specs.declared.statement.Statement.{Statement};
-ghost use Rattle.cd_read.specs.Files.{IsFile};
-ghost use Rattle.cd_read.specs.Problems.{Reads, IsWhole, IsFormed, ArePropositional};
-ghost use Rattle.cd_read.specs.Fetched.{IsReadFrom, IsReadFault, IsOfLibrary, IsWholeFault};
+ghost use Rattle.cd_read.specs.Files.{Inside, opens as all_open};
+ghost use Rattle.cd_read.specs.Labels.{Wants};
+ghost use Rattle.cd_read.specs.States.{Spends, CameFile, CameFrom, CameInclude, HasPlaces};
+ghost use Rattle.cd_read.specs.Fetched.{IsOfLibrary, IsReadFrom, IsReadCounted, IsReadFault, FetchesAtMost};
+ghost use Rattle.cd_read.specs.Formed.{IsFormed, IsBounded};
 
-use crate::build::build;
-use crate::problem::{Problem, What, Wrong};
-use crate::scan::{ScanFault, read_statements};
-use crate::statement::Statement;
+use crate::labels::{Seen, Wanted, innermost};
+use crate::problem::{Inputs, Problem, Wrong};
+use crate::state::{Next, State, all_occurred, fetch, last, read_next};
 use cd_list::{Copied, Sequence, Text};
-use cd_outside::{FetchFault, Library};
+use cd_outside::Library;
+use cd_parse::{Labels, Progress, Stage};
+use cd_symbols::Symbols;
 use std::alloc::{AllocError, Global};
 
 /// Why there is no problem.
@@ -19,7 +21,7 @@ use std::alloc::{AllocError, Global};
 pub enum ReadFault {
     /// The library failed at the file with this path.
     Library { path: Text },
-    /// The file isn't as it should be.
+    /// A file isn't as it should be.
     Wrong(Wrong),
     /// Memory ran out.
     Memory,
@@ -36,66 +38,196 @@ impl From<AllocError> for ReadFault {
     }
 }
 
-/// One byte more than a file may have.
-const CAP: u64 = 65_537;
+fn started(alloc: Global) -> Progress
+    ensures { (result.at ≡ 0) × (result.stage ≡ Stage.Begin) }
+{
+    Progress {
+        from: 0,
+        stage: Stage::Begin,
+        starts: Sequence::new(alloc),
+        at: 0,
+        words: 0,
+    }
+}
 
-/// Reads the problem of the file with this path.
+/// Reads the file whose path is the last of `opens`, which are the paths of the open files. It recurs no more
+/// than 16 files deep.
+#[cycle(files)]
+fn read_file<L: Library>(
+    alloc: Global,
+    library: &mut L,
+    state: &mut State,
+    opens: &mut Sequence<Text>,
+    wanted: &Wanted,
+) -> Result<(), ReadFault>
+    requires some { 0 < length opens.old }
+    requires few { length opens.old ≤ 16 }
+    requires used { state.old.used ≤ 4194304 }
+    ensures used { OnOk result (state.new.used ≤ 4194304) }
+    ensures same { OnOk result (opens.new ≡ opens.old) }
+    ensures later { L.faults library.old ≤ L.faults library.new }
+    ensures stays { (p : List ℕ) → L.holds library.new p ≡ L.holds library.old p }
+    ensures library { IfErr result (λ f. IsOfLibrary f → Rose (L.faults library.old) (L.faults library.new)) }
+    ensures spends { Spends state.old.used state.new.used (L.told library.old) (L.told library.new) result }
+    ensures reads { (i : Inside) → opens.old ≡ all_open i → Wants wanted.now i.lists
+        → CameFile i (L.holds library.old) state.old state.new (L.told library.old) (L.told library.new) result }
+{
+    let bytes = fetch(alloc, library, state, last(opens.as_slice()))?;
+    let mut progress = started(alloc);
+    read_statements(
+        alloc,
+        library,
+        state,
+        bytes.as_slice(),
+        &mut progress,
+        opens,
+        wanted,
+    )
+}
+
+/// Reads the statements of a file from a place on.
+#[cycle(files)]
+fn read_statements<L: Library>(
+    alloc: Global,
+    library: &mut L,
+    state: &mut State,
+    bytes: &[u8],
+    progress: &mut Progress,
+    opens: &mut Sequence<Text>,
+    wanted: &Wanted,
+) -> Result<(), ReadFault>
+    requires some { 0 < length opens.old }
+    requires few { length opens.old ≤ 16 }
+    requires used { state.old.used ≤ 4194304 }
+    requires bytes { length bytes.now ≤ 4194304 }
+    requires within { progress.old.at ≤ length bytes.now }
+    requires begin { progress.old.stage ≡ Stage.Begin }
+    ensures used { OnOk result (state.new.used ≤ 4194304) }
+    ensures same { OnOk result (opens.new ≡ opens.old) }
+    ensures later { L.faults library.old ≤ L.faults library.new }
+    ensures stays { (p : List ℕ) → L.holds library.new p ≡ L.holds library.old p }
+    ensures library { IfErr result (λ f. IsOfLibrary f → Rose (L.faults library.old) (L.faults library.new)) }
+    ensures spends { Spends state.old.used state.new.used (L.told library.old) (L.told library.new) result }
+    ensures reads { (i : Inside) → opens.old ≡ all_open i → Wants wanted.now i.lists
+        → CameFrom i (L.holds library.old) bytes.now progress.old.at state.old state.new
+        (L.told library.old) (L.told library.new) result }
+{
+    loop {
+        match read_next(alloc, state, bytes, progress, opens.as_slice(), wanted)? {
+            Next::Over => return Ok(()),
+            Next::Clause => {}
+            Next::Include(path, only) => {
+                include(
+                    alloc,
+                    library,
+                    state,
+                    progress.starts.as_slice(),
+                    opens,
+                    wanted,
+                    path,
+                    only,
+                )?;
+            }
+        }
+    }
+}
+
+/// Reads an included file. `starts` are the places of the tokens of the include.
+#[cycle(files)]
+fn include<L: Library>(
+    alloc: Global,
+    library: &mut L,
+    state: &mut State,
+    starts: &[u32],
+    opens: &mut Sequence<Text>,
+    wanted: &Wanted,
+    path: Text,
+    only: Option<Labels>,
+) -> Result<(), ReadFault>
+    requires some { 0 < length opens.old }
+    requires few { length opens.old < 16 }
+    requires used { state.old.used ≤ 4194304 }
+    requires places { HasPlaces only starts.now }
+    ensures used { OnOk result (state.new.used ≤ 4194304) }
+    ensures same { OnOk result (opens.new ≡ opens.old) }
+    ensures later { L.faults library.old ≤ L.faults library.new }
+    ensures stays { (p : List ℕ) → L.holds library.new p ≡ L.holds library.old p }
+    ensures library { IfErr result (λ f. IsOfLibrary f → Rose (L.faults library.old) (L.faults library.new)) }
+    ensures spends { Spends state.old.used state.new.used (L.told library.old) (L.told library.new) result }
+    ensures reads { (i : Inside) → opens.old ≡ all_open i → Wants wanted.now i.lists
+        → CameInclude i (L.holds library.old) path only starts.now state.old state.new
+        (L.told library.old) (L.told library.new) result }
+{
+    let inner = wanted.within(alloc, &only)?;
+    let before = state.seen.len();
+    opens.push(path)?;
+    read_file(alloc, library, state, opens, innermost(&inner, wanted))?;
+    opens.pop();
+    all_occurred(
+        alloc,
+        &state.seen,
+        before,
+        &only,
+        starts,
+        last(opens.as_slice()),
+    )
+}
+
+/// Reads the problem of the file with this path, and of the files that it includes: all that they spell, or
+/// their first fault in the order of reading, at its place.
+///
+/// No more than 4,194,305 bytes are fetched, and no more than 16 files are open at once.
 pub fn read_problem<L: Library>(
     alloc: Global,
     library: &mut L,
     path: &Text,
 ) -> Result<Problem, ReadFault>
-    ensures problem { IfOk result (IsReadFrom path.now (L.told library.old) (L.told library.new)) }
-    ensures whole { IfOk result (IsWhole path.now (L.holds library.old path.now)) }
+    ensures problem { IfOk result (IsReadFrom path.now (L.holds library.old) (L.told library.old) (L.told library.new)) }
     ensures formed { IfOk result IsFormed }
-    ensures few { IfOk result (λ p. length p.inputs ≤ 4096) }
-    ensures propositional { IfOk result (λ p. ArePropositional p.inputs) }
-    ensures fault { IfErr result (IsReadFault path.now (L.told library.old) (L.told library.new)) }
-    ensures whole_fault { IfErr result (IsWholeFault path.now (L.holds library.old path.now)) }
+    ensures bounded { IfOk result IsBounded }
+    ensures fault { IfErr result (IsReadFault path.now (L.holds library.old) (L.told library.old) (L.told library.new)) }
     ensures library { IfErr result (λ f. IsOfLibrary f → Rose (L.faults library.old) (L.faults library.new)) }
+    ensures later { L.faults library.old ≤ L.faults library.new }
+    ensures capped { FetchesAtMost 4194305 (L.told library.old) (L.told library.new) }
+    ensures stays { (p : List ℕ) → L.holds library.new p ≡ L.holds library.old p }
 {
-    let mut bytes = Sequence::new(alloc);
-    match library.fetch(path, CAP, &mut bytes) {
-        Ok(()) => {}
-        Err(FetchFault::Memory) => return Err(ReadFault::Memory),
-        Err(FetchFault::Failed) => {
-            let path = path.copy(alloc)?;
-            return Err(ReadFault::Library { path });
-        }
-    }
-    match parse(alloc, path, bytes.as_slice())? {
-        Some(problem) => Ok(problem),
-        None => {
-            let file = path.copy(alloc)?;
-            Err(ReadFault::Wrong(Wrong {
-                what: What::NotBuilt,
-                file,
-                at: 0,
-            }))
-        }
+    match read_counted(alloc, library, path) {
+        Ok((problem, _bytes)) => Ok(problem),
+        Err(fault) => Err(fault),
     }
 }
 
-// The problem that the bytes spell, if they are a file that is read.
-fn parse(alloc: Global, path: &Text, bytes: &[u8]) -> Result<Option<Problem>, AllocError>
-    ensures some { IfOk result (λ found. IfSome found (λ p. Reads path.now bytes.now (Ok p))) }
-    ensures formed { IfOk result (λ found. IfSome found IsFormed) }
-    ensures few { IfOk result (λ found. IfSome found (λ p. length p.inputs ≤ 4096)) }
-    ensures propositional { IfOk result (λ found. IfSome found (λ p. ArePropositional p.inputs)) }
-    ensures none { IfOk result (λ found. IfNone found ((statements : List Statement) → IsFile bytes.now statements → ⊥)) }
+/// Reads the problem of the file with this path as [`read_problem`] does, and says how many bytes the files
+/// have that were fetched for it. Each of its symbols takes two of them.
+pub fn read_counted<L: Library>(
+    alloc: Global,
+    library: &mut L,
+    path: &Text,
+) -> Result<(Problem, u64), ReadFault>
+    ensures problem { IfOk result (λ r. IsReadCounted path.now (L.holds library.old) (L.told library.old) (L.told library.new) r.0 r.1) }
+    ensures symbols { IfOk result (λ r. 2 * length r.0.symbols ≤ r.1) }
+    ensures formed { IfOk result (λ r. IsFormed r.0) }
+    ensures bounded { IfOk result (λ r. IsBounded r.0) }
+    ensures fault { IfErr result (IsReadFault path.now (L.holds library.old) (L.told library.old) (L.told library.new)) }
+    ensures library { IfErr result (λ f. IsOfLibrary f → Rose (L.faults library.old) (L.faults library.new)) }
+    ensures later { L.faults library.old ≤ L.faults library.new }
+    ensures capped { FetchesAtMost 4194305 (L.told library.old) (L.told library.new) }
+    ensures stays { (p : List ℕ) → L.holds library.new p ≡ L.holds library.old p }
 {
-    if bytes.len() > 65_536 {
-        return Ok(None);
-    }
-    match read_statements(alloc, bytes) {
-        Err(ScanFault::Memory) => Err(AllocError),
-        Err(ScanFault::Form) => Ok(None),
-        Ok(statements) => {
-            if statements.len() > 4_096 {
-                return Ok(None);
-            }
-            let problem = build(alloc, path, statements.as_slice())?;
-            Ok(Some(problem))
-        }
-    }
+    let mut state = State {
+        used: 0,
+        symbols: Symbols::new(alloc),
+        inputs: Inputs::new(alloc),
+        seen: Seen::new(alloc),
+    };
+    let mut opens = Sequence::new(alloc);
+    let name = path.copy(alloc)?;
+    opens.push(path.copy(alloc)?)?;
+    read_file(alloc, library, &mut state, &mut opens, &Wanted::All)?;
+    let problem = Problem {
+        name,
+        symbols: state.symbols,
+        inputs: state.inputs,
+    };
+    Ok((problem, state.used))
 }

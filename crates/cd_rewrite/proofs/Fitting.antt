@@ -14,6 +14,7 @@ use Rattle.cd_term.specs.Terms.{greatest, size_of, depth_of, bound_of, variables
 use Rattle.cd_term.specs.Symbols.{Symbols, is_over}
 use Rattle.cd_term.proofs.VariableLaws.{known, occurs-variables, renumbered-numbered}
 use Rattle.cd_term.proofs.NumberingLemmas.{variables_bound}
+use Rattle.cd_term.proofs.NumberedSizes.{all_variables_le, numbered_bound}
 use Rattle.cd_term.proofs.OverLemmas.{instance_over, value_over}
 use Rattle.cd_clause.specs.declared.Atom.{Atom}
 use Rattle.cd_clause.specs.declared.Atom.TheVariants.{Truth, Pred, Equal}
@@ -30,7 +31,7 @@ use Rattle.cd_rewrite.specs.Reduction.{IsRule, HasVariablesOf, Spot, IsReduct}
 use Rattle.cd_rewrite.specs.Laws.{TidySubstitutionsAgree, ReductsAreSteps, IsFit, AreFit, ReductsAreFit}
 use Rattle.cd_rewrite.proofs.Turns.{agreement}
 use Rattle.cd_rewrite.proofs.Agree.{rule_agree, old_agrees, places_agree}
-use Rattle.cd_rewrite.proofs.Matched.{Grows, size_grows, depth_grows, bound_grows, greatest_at, subterm_le, match_size, match_measure, match_over, numbered_known, numbered_bound, variables_le}
+use Rattle.cd_rewrite.proofs.Matched.{Grows, size_grows, depth_grows, bound_grows, greatest_at, subterm_le, match_size, match_measure, match_over, numbered_known}
 
 -- ---- each variable of a tidy equation stands in the side that has those of the other one
 
@@ -157,16 +158,12 @@ large_terms [] = omega arith
 large_terms (t ∷ ts) = omega (arith, large_terms ts, sum_by-cons size_of t ts)
 
 -- a tidy clause has no more variables than its size
-variables_in : (ts : List Term) → length (flat_map variables_of ts) ≤ sum_by size_of ts
-variables_in [] = omega arith
-variables_in (t ∷ ts) = omega (arith, variables_le t, variables_in ts, sum_by-cons size_of t ts, length-append (variables_of t) (flat_map variables_of ts))
-
 variables_among : (ls : List Literal) → length (flat_map variables_of (clause_terms ls)) ≤ sum_by literal_size ls
 variables_among [] = omega arith
 variables_among (l ∷ ls) =
     omega (
       arith,
-      variables_in (terms_of l.atom),
+      all_variables_le (terms_of l.atom),
       variables_among ls,
       sum_by-cons literal_size l ls,
       ap length (flat_map-append variables_of (terms_of l.atom) (clause_terms ls)),

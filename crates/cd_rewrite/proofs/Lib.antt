@@ -9,3 +9,4 @@ pub mod Agree
 pub mod Matched
 pub mod Fitting
 pub mod Deciding
+pub mod Idle

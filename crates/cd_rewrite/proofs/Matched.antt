@@ -1,7 +1,7 @@
 -- What a substitution that matches a term takes from what it makes of it: sizes, depths, variables and symbols.
-use Rattle.std.proofs.Common.{◌≡◌, ◌≢◌, inl, inr, ℕ, zero, suc, ◌+◌, ◌<◌, ◌≤◌, max, Bool, true, false, nat_eq, List, [], ◌∷◌, length, map, sum_by, Some, slice_get, refl, ap, sym, ◌∙◌, arith, length-append}
+use Rattle.std.proofs.Common.{◌≡◌, ◌≢◌, inl, inr, ℕ, zero, suc, ◌+◌, ◌<◌, ◌≤◌, max, Bool, true, false, nat_eq, List, [], ◌∷◌, length, map, sum_by, Some, slice_get, refl, ap, sym, ◌∙◌, arith}
 use Rattle.std.specs.Prelude.{unwrap_or}
-use Rattle.std.specs.List.{flat_map, list_any}
+use Rattle.std.specs.List.{list_any}
 use Rattle.std.proofs.lemmas.Option.{same_Some}
 use Rattle.std.proofs.lemmas.Bool.{or_cases, or_left, or_right, eqb-true, false≢true}
 use Rattle.std.proofs.lemmas.List.Sums.{sum_by-cons}
@@ -10,8 +10,9 @@ use Rattle.cd_term.specs.declared.Term.{Term}
 use Rattle.cd_term.specs.declared.Term.TheVariants.{Var, App}
 use Rattle.cd_term.specs.Terms.{greatest, size_of, depth_of, bound_of, variables_of, occurs, substituted, value_of, subterm, IsNumberedFrom}
 use Rattle.cd_term.proofs.TermInduction.{ind, Each}
-use Rattle.cd_term.proofs.Equations.{size_of-Var, size_of-App, depth_of-App, bound_of-App, variables_of-Var, variables_of-App, occurs-Var, occurs-App, substituted-Var, substituted-App}
+use Rattle.cd_term.proofs.Equations.{size_of-App, depth_of-App, bound_of-App, occurs-Var, occurs-App, substituted-Var, substituted-App}
 use Rattle.cd_term.proofs.SizeLaws.{size_of-substituted}
+use Rattle.cd_term.proofs.NumberedSizes.{variables_le}
 use Rattle.cd_term.proofs.VariableLaws.{known, occurs-variables}
 use Rattle.cd_term.proofs.PathLaws.{steps_to}
 use Rattle.cd_term.specs.Symbols.{Symbols, is_over, AreOver}
@@ -148,15 +149,6 @@ list_over y g a (t ∷ s) is all = (sym (ap (is_over y) is.0) ∙ all a (omega a
 
 -- ---- the values of a match
 
-pieces_le : (ts : List Term) → Each (λ t. length (variables_of t) ≤ size_of t) ts → length (flat_map variables_of ts) ≤ sum_by size_of ts
-pieces_le [] e = omega arith
-pieces_le (t ∷ ts) e = omega (arith, e.0, pieces_le ts e.1, sum_by-cons size_of t ts, length-append (variables_of t) (flat_map variables_of ts))
-
-pub variables_le : (t : Term) → length (variables_of t) ≤ size_of t
-variables_le = ind (λ t. length (variables_of t) ≤ size_of t)
-    (λ n. omega (arith, ap length (variables_of-Var n), size_of-Var n))
-    (λ f ts e. omega (arith, ap length (variables_of-App f ts), size_of-App f ts, pieces_le ts e))
-
 pub match_size : (s : List Term) (t : Term) → ((k : ℕ) → k < length s → occurs k t ≡ true) → sum_by size_of s ≤ size_of (substituted (value_of s) t)
 match_size s t all =
     omega (
@@ -183,7 +175,3 @@ numbered_known a k (v ∷ vs) numbered le lt = at (nat_eq v k) refl (λ more bel
     at false is rest =
         let apart : v ≢ k = (λ e. false≢true (sym is ∙ ap (λ n. nat_eq n k) e ∙ equal_itself k)) in
         or_right (nat_eq v k) (known k vs) (rest (omega (arith, numbered.0, le, apart)) (omega (arith, lt, numbered.0, le, apart)))
-
-pub numbered_bound : (a : ℕ) (vs : List ℕ) → IsNumberedFrom a vs → greatest (map (λ n. n + 1) vs) ≤ a + length vs
-numbered_bound a [] numbered = omega arith
-numbered_bound a (v ∷ vs) numbered = omega (arith, numbered.0, numbered_bound (max a (v + 1)) vs numbered.1)

@@ -140,11 +140,6 @@ lowers_none o left right t first second on = elim (lowers_parts o left right on.
   | inr p ↦ second on.1 p.1
 ]
 
--- where no side has an instance there, no term is lowered
-pub lowers_no_shape : (o : Order) (left right t : Term) → ((g : ℕ → Term) → substituted g left ≡ t → ⊥) → ((g : ℕ → Term) → substituted g right ≡ t → ⊥) →
-    LowersTerm o (equation_clause left right) t → ⊥
-lowers_no_shape o left right t first second = lowers_none o left right t (λ g f. first g f.1) (λ g f. second g f.1)
-
 -- a variable isn't lowered
 pub no_variable : (o : Order) (e : Clause) (t : Term) (n : ℕ) → t ≡ Var n → LowersTerm o e t → ⊥
 no_variable o e t n is on = on.3.compound n is

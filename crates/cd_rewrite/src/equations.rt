@@ -1,7 +1,7 @@
 //! Clauses that are one positive equation, and which of its sides can reduce a term.
 #![tactic(auto)]
 
-ghost use Rattle.std.specs.Prelude.{◌≡◌, ◌≤◌, ◌↔◌, ◌∷◌, [], IsTrue, false, true, MatchOption};
+ghost use Rattle.std.specs.Prelude.{◌≡◌, ◌≤◌, ◌↔◌, ◌⊎◌, ◌∷◌, [], IsTrue, false, true, MatchOption};
 ghost use Rattle.cd_term.specs.declared.Term.{Term};
 ghost use Rattle.cd_term.specs.Terms.{bound_of, occurs};
 ghost use Rattle.cd_clause.specs.declared.Atom.TheVariants.{Equal};
@@ -11,8 +11,9 @@ ghost use Rattle.cd_kbo.specs.Kbo.{Greater};
 ghost use Rattle.cd_kbo.specs.declared.order.Order.{Order};
 ghost use Rattle.cd_rewrite.specs.Reduction.{HasVariablesOf};
 ghost use Rattle.cd_rewrite.specs.Equations.{clause_of, IsTurn, IsReady};
+ghost use Rattle.cd_rewrite.specs.declared.equations.Turn.TheVariants.{Never};
 
-use cd_clause::{Atom, Clause, variables};
+use cd_clause::{Atom, Clause};
 use cd_kbo::{Order, greater};
 use cd_term::{Term, size};
 
@@ -149,19 +150,35 @@ pub fn sides_of_one(e: &Clause) -> Option<(&Term, &Term)>
     }
 }
 
-/// The equation that a clause is, with what the order says of its sides.
+/// The equation that a clause of so many variables is, with what the order says of its sides.
 pub fn equation_of<'e>(
     e: &'e Clause,
     left: &'e Term,
     right: &'e Term,
+    variables: u64,
     order: &Order,
 ) -> Equation<'e>
-    requires { e.now.literals ≡ signed true (Equal left.now right.now) ∷ [] }
+    requires sides { e.now.literals ≡ signed true (Equal left.now right.now) ∷ [] }
+    requires count { variables ≡ variable_bound_of e.now }
     ensures clause { clause_of result ≡ e.entry.now }
     ensures left { result.left.now ≡ left.entry.now }
     ensures right { result.right.now ≡ right.entry.now }
     ensures variables { result.variables ≡ variable_bound_of e.entry.now }
     ensures ready { IsReady order.now result }
 {
-    ordered(left, right, variables(e), order)
+    let _clause = e;
+    ordered(left, right, variables, order)
+}
+
+/// Whether a side isn't wanted, or can't reduce any term.
+pub fn is_idle(wanted: bool, turn: Turn) -> bool
+    ensures { IsTrue result → (wanted ≡ false) ⊎ (turn ≡ Never) }
+{
+    if !wanted {
+        return true;
+    }
+    match turn {
+        Turn::Never => true,
+        _ => false,
+    }
 }

@@ -8,8 +8,7 @@ mod lowering;
 mod places;
 mod reducing;
 mod rewriting;
-mod shapes;
 mod walks;
 
 pub use equations::{has_variables_of, sides_of_one};
-pub use reducing::{ReductAt, reduces, reduct};
+pub use reducing::{ReductAt, reduces, reduces_from, reduct};

@@ -1,35 +1,58 @@
 //! Whether an equation reduces a clause, and what it makes of it.
 #![tactic(auto)]
 
-ghost use Rattle.std.specs.Prelude.{◌≡◌, ◌≤◌, ◌↔◌, List, IsTrue, IfOk, IfSome, MatchOption};
+ghost use Rattle.std.specs.Prelude.{◌≡◌, ◌≤◌, ◌↔◌, List, IsTrue, false, IfOk, IfSome, MatchOption};
 ghost use Rattle.cd_term.specs.declared.Term.{Term};
 ghost use Rattle.cd_clause.specs.declared.Clause.{Clause};
-ghost use Rattle.cd_clause.specs.Clauses.{clause_size, IsWithinBounds};
-ghost use Rattle.cd_rewrite.specs.Reduction.{Reduces, Spot, IsReduct};
+ghost use Rattle.cd_clause.specs.Clauses.{clause_size, variable_bound_of, IsWithinBounds};
+ghost use Rattle.cd_rewrite.specs.Reduction.{Reduces, ReducesAt, Spot, IsReduct};
 
-use crate::equations::{equation_of, sides_of_one};
+use crate::equations::{equation_of, is_idle, sides_of_one};
 use crate::lowering::Lowering;
 use crate::places::{Place, first_place};
 use crate::rewriting::{other_side, path_of, rewritten};
-use crate::shapes::may_reduce;
-use cd_clause::Clause;
+use cd_clause::{Clause, variables};
 use cd_kbo::Order;
 use cd_term::{Path, Subst, TermFault};
 use std::alloc::{AllocError, Global};
 
-/// Whether clause `e` is one positive equation that reduces clause `c` somewhere. Most equations are refused by their
-/// symbols, without memory; the order is asked of the sides once, and of an instance only where neither is greater.
+/// Whether clause `e` is one positive equation that reduces clause `c` somewhere. The order is asked of the sides once,
+/// so that a smaller one is sought nowhere, and of an instance only where neither is greater; most subterms are refused
+/// by their symbols, without memory.
 pub fn reduces(alloc: Global, e: &Clause, c: &Clause, order: &Order) -> Result<bool, AllocError>
     requires { clause_size c.now ≤ 65535 }
     ensures { IfOk result (λ b. IsTrue b ↔ Reduces order.now e.now c.now) }
 {
+    reduces_from(alloc, e, variables(e), true, true, c, order)
+}
+
+/// The same where the caller knows how many variables `e` has, and which of its sides, the left one and the right one,
+/// may reduce `c`.
+pub fn reduces_from(
+    alloc: Global,
+    e: &Clause,
+    count: u64,
+    from_left: bool,
+    from_right: bool,
+    c: &Clause,
+    order: &Order,
+) -> Result<bool, AllocError>
+    requires size { clause_size c.now ≤ 65535 }
+    requires count { count ≡ variable_bound_of e.now }
+    requires left { from_left ≡ false → (at : Spot) → at.side ≡ 0 → ¬ ReducesAt order.now e.now c.now at }
+    requires right { from_right ≡ false → (at : Spot) → at.side ≡ 1 → ¬ ReducesAt order.now e.now c.now at }
+    ensures { IfOk result (λ b. IsTrue b ↔ Reduces order.now e.now c.now) }
+{
+    if !from_left && !from_right {
+        return Ok(false);
+    }
     let Some((left, right)) = sides_of_one(e) else {
         return Ok(false);
     };
-    if !may_reduce(left, right, c) {
+    let eq = equation_of(e, left, right, count, order);
+    if is_idle(from_left, eq.from_left) && is_idle(from_right, eq.from_right) {
         return Ok(false);
     }
-    let eq = equation_of(e, left, right, order);
     let Some(_place) = first_place(alloc, &eq, c, order)? else {
         return Ok(false);
     };
@@ -66,7 +89,7 @@ pub fn reduct(
     let Some((left, right)) = sides_of_one(e) else {
         return Ok(None);
     };
-    let eq = equation_of(e, left, right, order);
+    let eq = equation_of(e, left, right, variables(e), order);
     let Some(place) = first_place(alloc, &eq, c, order)? else {
         return Ok(None);
     };

@@ -13,3 +13,4 @@ pub mod Regular
 pub mod Drafting
 pub mod Reversing
 pub mod Registries
+pub mod Parents

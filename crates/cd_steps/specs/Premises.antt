@@ -1,5 +1,5 @@
 -- What a step stands on, and steps that are right over a registry of clauses.
--- Beyond the headline: no clause of `prove` reaches listed.
+-- Beyond the headline: no clause of `prove` reaches listed, numbers_of.
 use Rattle.std.specs.Prelude.{◌≡◌, ℕ, Bool, true, false, MatchBool, List, [], ◌∷◌, length, map, Option, None, Some, slice_get}
 use Rattle.std.specs.List.{list_any, flat_map}
 use Rattle.cd_names.specs.declared.names.Name.{Name}
@@ -65,12 +65,17 @@ IsRightFrom step cs result =
     (StepOk step (slice_get cs 0) (slice_get cs 1) (slice_get cs 2) result)
     (StepOk step None (slice_get cs 0) (slice_get cs 1) result)
 
+-- a step is right over what its premises stand for, in their order: each of them stands for a clause, and it is right from
+-- these
+pub record IsRightWith (stand : List (Option Clause)) (step : Step) (result : Clause) : Type 0 where
+  pub clauses : List Clause
+  pub are : stand ≡ map Some clauses
+  pub right : IsRightFrom step clauses result
+
 -- a registry says which clause a premise stands for, if it stands for one
 abbrev pub Registry : Type 0
 Registry = Premise → Option Clause
 
--- a step is right over a registry: each of its premises stands for a clause, and it is right from these
-pub record IsRightOver (registry : Registry) (step : Step) (result : Clause) : Type 0 where
-  pub clauses : List Clause
-  pub are : map registry (premises step) ≡ map Some clauses
-  pub right : IsRightFrom step clauses result
+-- a step is right over a registry
+abbrev pub IsRightOver : Registry → Step → Clause → Type 0
+IsRightOver registry step result = IsRightWith (map registry (premises step)) step result

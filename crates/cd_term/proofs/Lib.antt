@@ -17,3 +17,4 @@ pub mod Around
 pub mod Replacing
 pub mod Deciding
 pub mod OverLemmas
+pub mod NumberedSizes

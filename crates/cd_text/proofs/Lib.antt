@@ -1,3 +1,4 @@
+pub mod Numerals
 pub mod Separated
 pub mod TermTexts
 pub mod Feedless

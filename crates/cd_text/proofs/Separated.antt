@@ -2,6 +2,7 @@
 use Rattle.std.proofs.Common.{◌≡◌, ℕ, ◌+◌, ◌-◌, ◌<◌, ◌≤◌, Bool, true, false, cond, List, [], ◌∷◌, ◌++◌, codes, length, map, take, drop, get_or, refl, sym, ap, ◌∙◌, append_assoc, append-nil, arith}
 use Rattle.std.specs.List.{flat_map}
 use Rattle.std.proofs.lemmas.List.{take_more, take_all, map-append}
+use Rattle.std.proofs.lemmas.Grind.{flat_map-append}
 use Rattle.std.proofs.lemmas.List.Concat.{flat_map-cons}
 use Rattle.std.proofs.Math.Seq.{take-length}
 use Rattle.cd_text.specs.Texts.{separated, arguments_text}
@@ -21,14 +22,14 @@ joined_more between t (v ∷ ts) u =
     ap (λ (x : List ℕ). t ++ (between ++ x)) (joined_more between v ts u)
     ∙ simp append_assoc
 
-joined_map : {A : Type 0} (between : List ℕ) (text : A → List ℕ) (x : A) (xs : List A)
+pub separated_map : {A : Type 0} (between : List ℕ) (text : A → List ℕ) (x : A) (xs : List A)
     → separated between (λ t. t) (map text (x ∷ xs)) ≡ separated between text (x ∷ xs)
-joined_map between text x [] = refl
-joined_map between text x (y ∷ ys) = ap (λ (t : List ℕ). text x ++ (between ++ t)) (joined_map between text y ys)
+separated_map between text x [] = refl
+separated_map between text x (y ∷ ys) = ap (λ (t : List ℕ). text x ++ (between ++ t)) (separated_map between text y ys)
 
 arguments_joined : {A : Type 0} (text : A → List ℕ) (x : A) (xs : List A)
     → arguments_text (map text (x ∷ xs)) ≡ codes "(" ++ (separated (codes ",") text (x ∷ xs) ++ codes ")")
-arguments_joined text x xs = ap (λ (t : List ℕ). codes "(" ++ (t ++ codes ")")) (joined_map (codes ",") text x xs)
+arguments_joined text x xs = ap (λ (t : List ℕ). codes "(" ++ (t ++ codes ")")) (separated_map (codes ",") text x xs)
 
 -- arguments stand between parentheses, with commas
 pub arguments_enclosed : {A : Type 0} (text : A → List ℕ) (x : A) (xs : List A) (start opened put new : List ℕ) → 1 ≤ length xs → x ≡ get_or xs 0 x
@@ -43,6 +44,13 @@ arguments_enclosed text x (y ∷ ys) start opened put new some at o p n =
     ∙ append_assoc (start ++ codes "(") middle (codes ")") ∙ append_assoc start (codes "(") (middle ++ codes ")")
     ∙ ap (λ (t : List ℕ). start ++ t) (sym (arguments_joined text y ys))
 
+-- what stands between those parentheses
+pub arguments_are : {A : Type 0} (text : A → List ℕ) (x : A) (xs : List A) → 1 ≤ length xs → x ≡ get_or xs 0 x
+    → arguments_text (map text xs) ≡ codes "(" ++ (separated (codes ",") text (x ∷ take (length xs - 1) (drop 1 xs)) ++ codes ")")
+arguments_are text x xs some at =
+    let middle = separated (codes ",") text (x ∷ take (length xs - 1) (drop 1 xs)) in
+    sym (arguments_enclosed text x xs [] (codes "(") (codes "(" ++ middle) ((codes "(" ++ middle) ++ codes ")") some at refl refl refl)
+
 -- ---- arguments, one after another
 
 pub is_none : {A : Type 0} → List A → Bool
@@ -54,12 +62,12 @@ pub begun : List (List ℕ) → List ℕ
 begun [] = []
 begun (t ∷ ts) = codes "(" ++ separated (codes ",") (λ text. text) (t ∷ ts)
 
-begun_by : (ts : List (List ℕ)) (u : List ℕ) → begun (ts ++ u ∷ []) ≡ begun ts ++ (cond (is_none ts) (codes "(") (codes ",") ++ u)
+pub begun_by : (ts : List (List ℕ)) (u : List ℕ) → begun (ts ++ u ∷ []) ≡ begun ts ++ (cond (is_none ts) (codes "(") (codes ",") ++ u)
 unfolding begun is_none
 begun_by [] u = refl
 begun_by (t ∷ ts) u = ap (λ (x : List ℕ). codes "(" ++ x) (joined_more (codes ",") t ts u)
 
-none_map : {A : Type 0} (text : A → List ℕ) (xs : List A) → is_none (map text xs) ≡ is_none xs
+pub none_map : {A : Type 0} (text : A → List ℕ) (xs : List A) → is_none (map text xs) ≡ is_none xs
 unfolding is_none
 none_map text [] = refl
 none_map text (x ∷ xs) = refl
@@ -95,10 +103,28 @@ begun_more text xs i x start so_far front new first lt at printed is opened put 
     ∙ append_assoc start (begun items) (mark (is_none items) ++ text x)
     ∙ ap (λ (t : List ℕ). start ++ t) (sym (begun_by items (text x)) ∙ ap begun (sym next))
 
-begun_end : (ts : List (List ℕ)) → begun ts ++ cond (is_none ts) [] (codes ")") ≡ arguments_text ts
+pub begun_end : (ts : List (List ℕ)) → begun ts ++ cond (is_none ts) [] (codes ")") ≡ arguments_text ts
 unfolding begun is_none
 begun_end [] = refl
 begun_end (t ∷ ts) = refl
+
+-- items that follow others, each with a comma before it
+pub further : List (List ℕ) → List ℕ
+further ts = flat_map (λ t. codes "," ++ t) ts
+
+-- the text of some arguments begins with those of the first
+pub begun_behind : (ts us : List (List ℕ)) → is_none ts ≡ false → arguments_text (ts ++ us) ≡ begun ts ++ (further us ++ codes ")")
+unfolding begun is_none further
+begun_behind [] us some = absurd (cc some)
+begun_behind (t ∷ ts) us some =
+    let others = further us in
+    let inside : separated (codes ",") (λ text. text) (t ∷ (ts ++ us)) ≡ separated (codes ",") (λ text. text) (t ∷ ts) ++ others =
+    separated_first (codes ",") (λ text. text) t (ts ++ us)
+    ∙ ap (λ (x : List ℕ). t ++ x) (flat_map-append (λ u. codes "," ++ u) ts us)
+    ∙ sym (append_assoc t (further ts) others)
+    ∙ ap (λ (x : List ℕ). x ++ others) (sym (separated_first (codes ",") (λ text. text) t ts)) in
+    ap (λ (x : List ℕ). codes "(" ++ (x ++ codes ")")) inside
+    ∙ ap (λ (x : List ℕ). codes "(" ++ x) (append_assoc (separated (codes ",") (λ text. text) (t ∷ ts)) others (codes ")"))
 
 -- all of them
 pub arguments_end : {A : Type 0} (text : A → List ℕ) (xs ys : List A) (i : ℕ) (start so_far new : List ℕ) (first : Bool) → length xs ≤ i → xs ≡ ys

@@ -1,3 +1,6 @@
+pub mod Words
+pub mod Numerals
 pub mod Texts
 pub mod Feeds
+pub mod Formed
 pub mod Fronts

@@ -1,5 +1,5 @@
 -- The printed texts of words, clauses and derivation lines.
-use Rattle.std.specs.Prelude.{ℕ, Bool, ◌&&◌, ◌||◌, ◌==◌, true, false, nat_le, if◌then◌else◌, List, [], ◌∷◌, ◌++◌, map, codes, decimal, Option, None, Some, slice_get}
+use Rattle.std.specs.Prelude.{ℕ, Bool, ◌&&◌, ◌||◌, ◌==◌, true, false, nat_le, if◌then◌else◌, List, [], ◌∷◌, ◌++◌, map, codes, Option, None, Some, slice_get}
 use Rattle.std.specs.List.{flat_map}
 use Rattle.cd_term.specs.declared.Term.{Term, fold-Term}
 use Rattle.cd_term.specs.declared.Term.TheOpen.{Term-F}
@@ -11,16 +11,17 @@ use Rattle.cd_clause.specs.declared.Clause.{Clause}
 use Rattle.cd_steps.specs.declared.Step.{Step}
 use Rattle.cd_steps.specs.declared.Step.TheVariants.{Input, Copy, Resolve, Factor, Refl, EqFac, Para, Rewrite, Tidy}
 use Rattle.cd_symbols.specs.Symbol.{Symbol}
-use Rattle.cd_read.specs.declared.problem.Label.{Label}
-use Rattle.cd_read.specs.declared.problem.Label.TheVariants.{Word}
-use Rattle.cd_read.specs.declared.problem.Role.{Role}
-use Rattle.cd_read.specs.declared.problem.Role.TheVariants.{Axiom}
-use Rattle.cd_read.specs.Words.{is_word}
+use Rattle.cd_parse.specs.declared.label.Label.{Label}
+use Rattle.cd_parse.specs.declared.label.Label.TheVariants.{Word, Integer}
+use Rattle.cd_parse.specs.declared.label.Role.{Role}
+use Rattle.cd_parse.specs.declared.label.Role.TheVariants as roles
 use Rattle.cd_text.specs.declared.line.Line.{Line}
 use Rattle.cd_text.specs.declared.line.LineRole.{LineRole}
 use Rattle.cd_text.specs.declared.line.LineRole.TheVariants.{Given, Plain}
 use Rattle.cd_text.specs.declared.line.LineSource.{LineSource}
 use Rattle.cd_text.specs.declared.line.LineSource.TheVariants.{File, Inference}
+use Rattle.cd_text.specs.Numerals.{numeral}
+use Rattle.cd_text.specs.Words.{is_word}
 
 -- ---- words
 
@@ -64,7 +65,7 @@ arguments_text (t ∷ ts) = codes "(" ++ (separated (codes ",") (λ text. text) 
 
 -- a variable is X and its number, a symbol its word and its arguments
 abbrev pub term_step : List Symbol → Term-F (List ℕ) → List ℕ
-term_step symbols (layer.Var n) = codes "X" ++ decimal n
+term_step symbols (layer.Var n) = codes "X" ++ numeral n
 term_step symbols (layer.App f texts) = symbol_text (slice_get symbols f) ++ arguments_text texts
 
 abbrev pub term_text : List Symbol → Term → List ℕ
@@ -92,21 +93,31 @@ clause_text symbols c = literals_text symbols c.literals
 -- ---- derivation lines
 
 abbrev pub given_text : Role → List ℕ
-given_text Axiom = codes "axiom"
+given_text roles.Axiom = codes "axiom"
+given_text roles.Hypothesis = codes "hypothesis"
+given_text roles.Definition = codes "definition"
+given_text roles.Assumption = codes "assumption"
+given_text roles.Lemma = codes "lemma"
+given_text roles.Theorem = codes "theorem"
+given_text roles.Corollary = codes "corollary"
+given_text roles.NegatedConjecture = codes "negated_conjecture"
+given_text roles.Plain = codes "plain"
 
 abbrev pub role_text : LineRole → List ℕ
 role_text (Given role) = given_text role
 role_text Plain = codes "plain"
 
+-- an integer is its digits, as they stand in the file
 abbrev pub label_text : Label → List ℕ
 label_text (Word word) = word_text word
+label_text (Integer digits) = digits
 
 -- a line's name
 abbrev pub name_text : ℕ → List ℕ
-name_text number = codes "c" ++ decimal number
+name_text number = codes "c" ++ numeral number
 
 abbrev pub numbers_text : List ℕ → List ℕ
-numbers_text ns = separated (codes ",") decimal ns
+numbers_text ns = separated (codes ",") numeral ns
 
 -- a path behind the numbers before it
 abbrev pub path_text : List ℕ → List ℕ

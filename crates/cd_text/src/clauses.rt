@@ -1,7 +1,7 @@
 //! Literals and clauses.
 ghost use Rattle.std.specs.Prelude.{◌≡◌, ◌++◌, ◌∷◌, if◌then◌else◌, codes, map, slice_get, OnOk, OnErr};
 ghost use Rattle.std.specs.List.{flat_map};
-ghost use Rattle.cd_text.specs.Fronts.{KeepsFront};
+ghost use Rattle.cd_text.specs.Fronts.{AddsFront};
 ghost use Rattle.cd_text.specs.Texts.{arguments_text, clause_text, separated, literal_text, symbol_text, term_text};
 
 use crate::terms::{put_arguments, put_symbol, put_term};
@@ -14,26 +14,11 @@ use std::alloc::AllocError;
 
 /// Appends a clause as it is printed: `$false` for the empty clause, and else its literals between parentheses,
 /// joined by bars (TPTP; Sutcliffe, The TPTP World, 2010). Variable `k` is printed as `X` and `k`; a symbol that
-/// isn't in the table has no word. Where memory runs out, `into` is as it was.
-#[tactic(auto, using(crate::proofs::Fronts::kept_front))]
+/// isn't in the table has no word. Where memory runs out, `into` holds what it held and a front of the text.
+#[tactic(auto, using(std::proofs::Common::append_assoc, crate::proofs::Fronts::adds_first, crate::proofs::Fronts::adds_next), unfolding(crate::specs::Texts::clause_text))]
 pub fn clause_text(symbols: &Symbols, c: &Clause, into: &mut Bytes) -> Result<(), AllocError>
-    ensures ok { OnOk result (into.new ≡ into.old ++ clause_text symbols.now c.now) }
-    ensures err { OnErr result (into.new ≡ into.old) }
-{
-    let before = into.len();
-    match put_clause(symbols, c, into) {
-        Ok(()) => Ok(()),
-        Err(error) => {
-            into.truncate(before);
-            Err(error)
-        }
-    }
-}
-
-#[tactic(auto, using(std::proofs::Common::append_assoc), unfolding(crate::specs::Texts::clause_text))]
-pub(crate) fn put_clause(symbols: &Symbols, c: &Clause, into: &mut Bytes) -> Result<(), AllocError>
     ensures text { OnOk result (into.new ≡ into.old ++ clause_text symbols.now c.now) }
-    ensures kept { KeepsFront into.old into.new }
+    ensures front { OnErr result (AddsFront into.old into.new (clause_text symbols.now c.now)) }
 {
     match c.literals.as_slice() {
         [] => put_bytes(into, b"$false"),
@@ -45,7 +30,7 @@ pub(crate) fn put_clause(symbols: &Symbols, c: &Clause, into: &mut Bytes) -> Res
     }
 }
 
-#[tactic(auto, using(std::proofs::Common::append_assoc, crate::proofs::Separated::separated_first))]
+#[tactic(auto, using(std::proofs::Common::append_assoc, crate::proofs::Fronts::adds_first, crate::proofs::Fronts::adds_next, crate::proofs::Separated::separated_first))]
 fn put_literals(
     symbols: &Symbols,
     first: &Literal,
@@ -53,7 +38,7 @@ fn put_literals(
     into: &mut Bytes,
 ) -> Result<(), AllocError>
     ensures text { OnOk result (into.new ≡ into.old ++ separated (codes " | ") (literal_text symbols.now) (first.now ∷ others.now)) }
-    ensures kept { KeepsFront into.old into.new }
+    ensures front { OnErr result (AddsFront into.old into.new (separated (codes " | ") (literal_text symbols.now) (first.now ∷ others.now))) }
 {
     put_literal(symbols, first, into)?;
     put_further(symbols, others, into)
@@ -62,20 +47,18 @@ fn put_literals(
 #[tactic(auto, using(std::proofs::Common::append_assoc))]
 fn put_further(symbols: &Symbols, literals: &[Literal], into: &mut Bytes) -> Result<(), AllocError>
     ensures text { OnOk result (into.new ≡ into.old ++ flat_map (λ l. codes " | " ++ literal_text symbols.now l) literals.now) }
-    ensures kept { KeepsFront into.old into.new }
+    ensures front { OnErr result (AddsFront into.old into.new (flat_map (λ l. codes " | " ++ literal_text symbols.now l) literals.now)) }
 {
-    let mut rest = literals;
-    while let [first, after @ ..] = rest {
+    for literal in literals {
         put_bytes(into, b" | ")?;
-        put_literal(symbols, first, into)?;
-        rest = after;
+        put_literal(symbols, literal, into)?;
     }
     Ok(())
 }
 
 fn put_literal(symbols: &Symbols, literal: &Literal, into: &mut Bytes) -> Result<(), AllocError>
     ensures text { OnOk result (into.new ≡ into.old ++ literal_text symbols.now literal.now) }
-    ensures kept { KeepsFront into.old into.new }
+    ensures front { OnErr result (AddsFront into.old into.new (literal_text symbols.now literal.now)) }
 {
     match &literal.atom {
         Atom::Truth => put_truth(literal.positive, into),
@@ -86,7 +69,7 @@ fn put_literal(symbols: &Symbols, literal: &Literal, into: &mut Bytes) -> Result
 
 fn put_truth(positive: bool, into: &mut Bytes) -> Result<(), AllocError>
     ensures text { OnOk result (into.new ≡ into.old ++ (if positive then codes "$true" else codes "$false")) }
-    ensures kept { KeepsFront into.old into.new }
+    ensures front { OnErr result (AddsFront into.old into.new (if positive then codes "$true" else codes "$false")) }
 {
     if positive {
         put_bytes(into, b"$true")
@@ -95,7 +78,7 @@ fn put_truth(positive: bool, into: &mut Bytes) -> Result<(), AllocError>
     }
 }
 
-#[tactic(auto, using(std::proofs::Common::append_assoc))]
+#[tactic(auto, using(std::proofs::Common::append_assoc, crate::proofs::Fronts::adds_first, crate::proofs::Fronts::adds_next))]
 fn put_predicate(
     symbols: &Symbols,
     positive: bool,
@@ -105,16 +88,26 @@ fn put_predicate(
 ) -> Result<(), AllocError>
     ensures text { OnOk result (into.new ≡ into.old ++ ((if positive then codes "" else codes "~")
         ++ (symbol_text (slice_get symbols.now p) ++ arguments_text (map (term_text symbols.now) args.now)))) }
-    ensures kept { KeepsFront into.old into.new }
+    ensures front { OnErr result (AddsFront into.old into.new ((if positive then codes "" else codes "~")
+        ++ (symbol_text (slice_get symbols.now p) ++ arguments_text (map (term_text symbols.now) args.now)))) }
 {
-    if !positive {
-        put_bytes(into, b"~")?;
-    }
+    put_sign(positive, into)?;
     put_symbol(symbols, p, into)?;
     put_arguments(symbols, args, into)
 }
 
-#[tactic(auto, using(std::proofs::Common::append_assoc))]
+fn put_sign(positive: bool, into: &mut Bytes) -> Result<(), AllocError>
+    ensures text { OnOk result (into.new ≡ into.old ++ (if positive then codes "" else codes "~")) }
+    ensures front { OnErr result (AddsFront into.old into.new (if positive then codes "" else codes "~")) }
+{
+    if positive {
+        Ok(())
+    } else {
+        put_bytes(into, b"~")
+    }
+}
+
+#[tactic(auto, using(std::proofs::Common::append_assoc, crate::proofs::Fronts::adds_first, crate::proofs::Fronts::adds_next))]
 fn put_equation(
     symbols: &Symbols,
     positive: bool,
@@ -124,7 +117,8 @@ fn put_equation(
 ) -> Result<(), AllocError>
     ensures text { OnOk result (into.new ≡ into.old ++ (term_text symbols.now left.now
         ++ ((if positive then codes " = " else codes " != ") ++ term_text symbols.now right.now))) }
-    ensures kept { KeepsFront into.old into.new }
+    ensures front { OnErr result (AddsFront into.old into.new (term_text symbols.now left.now
+        ++ ((if positive then codes " = " else codes " != ") ++ term_text symbols.now right.now))) }
 {
     put_term(symbols, left, into)?;
     put_relation(positive, into)?;
@@ -133,7 +127,7 @@ fn put_equation(
 
 fn put_relation(positive: bool, into: &mut Bytes) -> Result<(), AllocError>
     ensures text { OnOk result (into.new ≡ into.old ++ (if positive then codes " = " else codes " != ")) }
-    ensures kept { KeepsFront into.old into.new }
+    ensures front { OnErr result (AddsFront into.old into.new (if positive then codes " = " else codes " != ")) }
 {
     if positive {
         put_bytes(into, b" = ")

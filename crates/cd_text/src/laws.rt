@@ -6,18 +6,17 @@ pub fn printed_words_have_no_feed()
     ensures { PrintedWordsHaveNoFeed }
 {}
 
-/// No line feed stands in a printed label.
+/// No line feed stands in a printed label that is digits where it is an integer.
 pub fn printed_labels_have_no_feed()
     ensures { PrintedLabelsHaveNoFeed }
 {}
 
-/// No line feed stands in a printed clause whose variables have numbers below 2^64 - 1.
+/// No line feed stands in a printed clause.
 pub fn printed_clauses_have_no_feed()
     ensures { PrintedClausesHaveNoFeed }
 {}
 
-/// No line feed stands in a printed derivation line whose numbers are below 2^64, and those of its variables
-/// below 2^64 - 1.
+/// No line feed stands in a printed derivation line whose label is digits where it is an integer.
 pub fn printed_lines_have_no_feed()
     ensures { PrintedLinesHaveNoFeed }
 {}

@@ -1,10 +1,10 @@
 //! The lines of a derivation.
 ghost use Rattle.std.specs.Prelude.{◌≡◌, ◌++◌, ◌∷◌, codes, OnOk, OnErr};
 ghost use Rattle.std.specs.List.{flat_map};
-ghost use Rattle.cd_text.specs.Fronts.{KeepsFront};
-ghost use Rattle.cd_text.specs.Texts.{clause_text, given_text, separated, label_text, line_text, name_text, role_text, source_text};
+ghost use Rattle.cd_text.specs.Fronts.{AddsFront};
+ghost use Rattle.cd_text.specs.Texts.{clause_text, given_text, separated, label_text, line_text, name_text, quoted, role_text, rule_text, source_text};
 
-use crate::clauses::put_clause;
+use crate::clauses::clause_text;
 use crate::rule::put_rule;
 use crate::words::{put_bytes, put_number, put_quoted, put_word};
 use cd_clause::Clause;
@@ -44,26 +44,12 @@ pub struct Line {
 /// Lines, each with a number one greater than that of the line before.
 pub type Lines = Sequence<Line>;
 
-/// Appends a derivation line as it is printed, without a line feed. Where memory runs out, `into` is as it was.
-#[tactic(auto, using(crate::proofs::Fronts::kept_front))]
-pub fn line_text(symbols: &Symbols, line: &Line, into: &mut Bytes) -> Result<(), AllocError>
-    ensures ok { OnOk result (into.new ≡ into.old ++ line_text symbols.now line.now) }
-    ensures err { OnErr result (into.new ≡ into.old) }
-{
-    let before = into.len();
-    match put_line(symbols, line, into) {
-        Ok(()) => Ok(()),
-        Err(error) => {
-            into.truncate(before);
-            Err(error)
-        }
-    }
-}
-
+/// Appends a derivation line as it is printed, without a line feed. Where memory runs out, `into` holds what it held
+/// and a front of the text.
 #[tactic(auto, using(std::proofs::Common::append_assoc), unfolding(crate::specs::Texts::line_text))]
-fn put_line(symbols: &Symbols, line: &Line, into: &mut Bytes) -> Result<(), AllocError>
+pub fn line_text(symbols: &Symbols, line: &Line, into: &mut Bytes) -> Result<(), AllocError>
     ensures text { OnOk result (into.new ≡ into.old ++ line_text symbols.now line.now) }
-    ensures kept { KeepsFront into.old into.new }
+    ensures front { OnErr result (AddsFront into.old into.new (line_text symbols.now line.now)) }
 {
     put_bytes(into, b"cnf(")?;
     put_name(line.number, into)?;
@@ -78,25 +64,28 @@ fn put_line(symbols: &Symbols, line: &Line, into: &mut Bytes) -> Result<(), Allo
 fn put_body(symbols: &Symbols, line: &Line, into: &mut Bytes) -> Result<(), AllocError>
     ensures text { OnOk result (into.new ≡ into.old ++ (clause_text symbols.now line.now.clause
         ++ (codes "," ++ (source_text symbols.now line.now.source ++ codes ").")))) }
-    ensures kept { KeepsFront into.old into.new }
+    ensures front { OnErr result (AddsFront into.old into.new ((clause_text symbols.now line.now.clause
+        ++ (codes "," ++ (source_text symbols.now line.now.source ++ codes ")."))))) }
 {
-    put_clause(symbols, &line.clause, into)?;
+    clause_text(symbols, &line.clause, into)?;
     put_bytes(into, b",")?;
     put_source(symbols, &line.source, into)?;
     put_bytes(into, b").")
 }
 
-fn put_name(number: u64, into: &mut Bytes) -> Result<(), AllocError>
+/// Appends a line's name: `c` and its number.
+pub fn put_name(number: u64, into: &mut Bytes) -> Result<(), AllocError>
     ensures text { OnOk result (into.new ≡ into.old ++ name_text number) }
-    ensures kept { KeepsFront into.old into.new }
+    ensures front { OnErr result (AddsFront into.old into.new (name_text number)) }
 {
     put_bytes(into, b"c")?;
     put_number(into, number)
 }
 
-fn put_role(role: LineRole, into: &mut Bytes) -> Result<(), AllocError>
+/// Appends the role of a line.
+pub fn put_role(role: LineRole, into: &mut Bytes) -> Result<(), AllocError>
     ensures text { OnOk result (into.new ≡ into.old ++ role_text role) }
-    ensures kept { KeepsFront into.old into.new }
+    ensures front { OnErr result (AddsFront into.old into.new (role_text role)) }
 {
     match role {
         LineRole::Given(given) => put_given(given, into),
@@ -104,50 +93,85 @@ fn put_role(role: LineRole, into: &mut Bytes) -> Result<(), AllocError>
     }
 }
 
-fn put_given(role: Role, into: &mut Bytes) -> Result<(), AllocError>
+/// Appends the role of an input.
+pub fn put_given(role: Role, into: &mut Bytes) -> Result<(), AllocError>
     ensures text { OnOk result (into.new ≡ into.old ++ given_text role) }
-    ensures kept { KeepsFront into.old into.new }
+    ensures front { OnErr result (AddsFront into.old into.new (given_text role)) }
 {
     match role {
         Role::Axiom => put_bytes(into, b"axiom"),
+        Role::Hypothesis => put_bytes(into, b"hypothesis"),
+        Role::Definition => put_bytes(into, b"definition"),
+        Role::Assumption => put_bytes(into, b"assumption"),
+        Role::Lemma => put_bytes(into, b"lemma"),
+        Role::Theorem => put_bytes(into, b"theorem"),
+        Role::Corollary => put_bytes(into, b"corollary"),
+        Role::NegatedConjecture => put_bytes(into, b"negated_conjecture"),
+        Role::Plain => put_bytes(into, b"plain"),
     }
 }
 
-#[tactic(auto, using(std::proofs::Common::append_assoc), unfolding(crate::specs::Texts::source_text))]
+#[tactic(auto, unfolding(crate::specs::Texts::source_text))]
 fn put_source(symbols: &Symbols, source: &LineSource, into: &mut Bytes) -> Result<(), AllocError>
     ensures text { OnOk result (into.new ≡ into.old ++ source_text symbols.now source.now) }
-    ensures kept { KeepsFront into.old into.new }
+    ensures front { OnErr result (AddsFront into.old into.new (source_text symbols.now source.now)) }
 {
     match source {
-        LineSource::File { path, label } => {
-            put_bytes(into, b"file(")?;
-            put_quoted(into, path.as_bytes())?;
-            put_bytes(into, b",")?;
-            put_label(label, into)?;
-            put_bytes(into, b")")
-        }
-        LineSource::Inference { step, parents } => {
-            put_bytes(into, b"inference(")?;
-            put_rule(symbols, step, into)?;
-            put_bytes(into, b",[")?;
-            put_parents(parents.as_slice(), into)?;
-            put_bytes(into, b"])")
-        }
+        LineSource::File { path, label } => put_file(path.as_bytes(), label, into),
+        LineSource::Inference { step, parents } => put_inference(
+            symbols,
+            step,
+            parents.as_slice(),
+            into,
+        ),
     }
 }
 
-fn put_label(label: &Label, into: &mut Bytes) -> Result<(), AllocError>
+#[tactic(auto, using(std::proofs::Common::append_assoc))]
+fn put_file(path: &[u8], label: &Label, into: &mut Bytes) -> Result<(), AllocError>
+    ensures text { OnOk result (into.new ≡ into.old ++ (codes "file(" ++ (quoted path.now ++ (codes "," ++ (label_text label.now ++ codes ")"))))) }
+    ensures front { OnErr result (AddsFront into.old into.new (codes "file(" ++ (quoted path.now ++ (codes "," ++ (label_text label.now ++ codes ")"))))) }
+{
+    put_bytes(into, b"file(")?;
+    put_quoted(into, path)?;
+    put_bytes(into, b",")?;
+    put_label(label, into)?;
+    put_bytes(into, b")")
+}
+
+#[tactic(auto, using(std::proofs::Common::append_assoc))]
+fn put_inference(
+    symbols: &Symbols,
+    step: &Step,
+    parents: &[u64],
+    into: &mut Bytes,
+) -> Result<(), AllocError>
+    ensures text { OnOk result (into.new ≡ into.old ++ (codes "inference("
+        ++ (rule_text symbols.now step.now ++ (codes ",[" ++ (separated (codes ",") name_text parents.now ++ codes "])"))))) }
+    ensures front { OnErr result (AddsFront into.old into.new (codes "inference("
+        ++ (rule_text symbols.now step.now ++ (codes ",[" ++ (separated (codes ",") name_text parents.now ++ codes "])"))))) }
+{
+    put_bytes(into, b"inference(")?;
+    put_rule(symbols, step, into)?;
+    put_bytes(into, b",[")?;
+    put_parents(parents, into)?;
+    put_bytes(into, b"])")
+}
+
+/// Appends a label: a word, or an integer by its digits.
+pub fn put_label(label: &Label, into: &mut Bytes) -> Result<(), AllocError>
     ensures text { OnOk result (into.new ≡ into.old ++ label_text label.now) }
-    ensures kept { KeepsFront into.old into.new }
+    ensures front { OnErr result (AddsFront into.old into.new (label_text label.now)) }
 {
     match label {
         Label::Word(word) => put_word(into, word.as_bytes()),
+        Label::Integer(digits) => put_bytes(into, digits.as_bytes()),
     }
 }
 
 fn put_parents(parents: &[u64], into: &mut Bytes) -> Result<(), AllocError>
     ensures text { OnOk result (into.new ≡ into.old ++ separated (codes ",") name_text parents.now) }
-    ensures kept { KeepsFront into.old into.new }
+    ensures front { OnErr result (AddsFront into.old into.new (separated (codes ",") name_text parents.now)) }
 {
     match parents {
         [] => Ok(()),
@@ -158,7 +182,7 @@ fn put_parents(parents: &[u64], into: &mut Bytes) -> Result<(), AllocError>
 #[tactic(auto, using(std::proofs::Common::append_assoc, crate::proofs::Separated::separated_first))]
 fn put_names(first: u64, others: &[u64], into: &mut Bytes) -> Result<(), AllocError>
     ensures text { OnOk result (into.new ≡ into.old ++ separated (codes ",") name_text (first ∷ others.now)) }
-    ensures kept { KeepsFront into.old into.new }
+    ensures front { OnErr result (AddsFront into.old into.new (separated (codes ",") name_text (first ∷ others.now))) }
 {
     put_name(first, into)?;
     put_further(others, into)
@@ -167,7 +191,7 @@ fn put_names(first: u64, others: &[u64], into: &mut Bytes) -> Result<(), AllocEr
 #[tactic(auto, using(std::proofs::Common::append_assoc))]
 fn put_further(parents: &[u64], into: &mut Bytes) -> Result<(), AllocError>
     ensures text { OnOk result (into.new ≡ into.old ++ flat_map (λ n. codes "," ++ name_text n) parents.now) }
-    ensures kept { KeepsFront into.old into.new }
+    ensures front { OnErr result (AddsFront into.old into.new (flat_map (λ n. codes "," ++ name_text n) parents.now)) }
 {
     for parent in parents {
         put_bytes(into, b",")?;

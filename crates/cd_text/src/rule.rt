@@ -1,7 +1,8 @@
 //! The rule of a step and its entries.
-ghost use Rattle.std.specs.Prelude.{◌≡◌, ◌++◌, ◌∷◌, [], ℕ, List, codes, decimal, OnOk};
+ghost use Rattle.std.specs.Prelude.{◌≡◌, ◌++◌, ◌∷◌, [], ℕ, List, codes, OnOk, OnErr};
 ghost use Rattle.std.specs.List.{flat_map};
-ghost use Rattle.cd_text.specs.Fronts.{KeepsFront};
+ghost use Rattle.cd_text.specs.Fronts.{AddsFront};
+ghost use Rattle.cd_text.specs.Numerals.{numeral};
 ghost use Rattle.cd_text.specs.Texts.{entries_text, numbers_text, path_text, rule_text, separated, term_text};
 
 use crate::terms::put_terms;
@@ -16,7 +17,7 @@ use std::alloc::AllocError;
 #[tactic(auto, unfolding(crate::specs::Texts::rule_text))]
 pub fn put_rule(symbols: &Symbols, step: &Step, into: &mut Bytes) -> Result<(), AllocError>
     ensures text { OnOk result (into.new ≡ into.old ++ rule_text symbols.now step.now) }
-    ensures kept { KeepsFront into.old into.new }
+    ensures front { OnErr result (AddsFront into.old into.new (rule_text symbols.now step.now)) }
 {
     match step {
         Step::Input { index: _ } => Ok(()),
@@ -74,14 +75,14 @@ fn put_pair(
     into: &mut Bytes,
 ) -> Result<(), AllocError>
     ensures text { OnOk result (into.new ≡ into.old ++ entries_text symbols.now word.now (numbers_text (i ∷ j ∷ [])) subst.now) }
-    ensures kept { KeepsFront into.old into.new }
+    ensures front { OnErr result (AddsFront into.old into.new (entries_text symbols.now word.now (numbers_text (i ∷ j ∷ [])) subst.now)) }
 {
     put_entries(symbols, word, [i, j].as_slice(), subst, into)
 }
 
 fn put_refl(symbols: &Symbols, i: u16, subst: &[Term], into: &mut Bytes) -> Result<(), AllocError>
     ensures text { OnOk result (into.new ≡ into.old ++ entries_text symbols.now (codes "refl") (numbers_text (i ∷ [])) subst.now) }
-    ensures kept { KeepsFront into.old into.new }
+    ensures front { OnErr result (AddsFront into.old into.new (entries_text symbols.now (codes "refl") (numbers_text (i ∷ [])) subst.now)) }
 {
     put_entries(symbols, b"refl", [i].as_slice(), subst, into)
 }
@@ -96,7 +97,7 @@ fn put_eqfac(
     into: &mut Bytes,
 ) -> Result<(), AllocError>
     ensures text { OnOk result (into.new ≡ into.old ++ entries_text symbols.now (codes "eqfac") (numbers_text (i ∷ s ∷ j ∷ z ∷ [])) subst.now) }
-    ensures kept { KeepsFront into.old into.new }
+    ensures front { OnErr result (AddsFront into.old into.new (entries_text symbols.now (codes "eqfac") (numbers_text (i ∷ s ∷ j ∷ z ∷ [])) subst.now)) }
 {
     put_entries(
         symbols,
@@ -117,7 +118,7 @@ fn put_para(
     into: &mut Bytes,
 ) -> Result<(), AllocError>
     ensures text { OnOk result (into.new ≡ into.old ++ entries_text symbols.now (codes "para") (numbers_text (i ∷ s ∷ j ∷ []) ++ path_text at.now) subst.now) }
-    ensures kept { KeepsFront into.old into.new }
+    ensures front { OnErr result (AddsFront into.old into.new (entries_text symbols.now (codes "para") (numbers_text (i ∷ s ∷ j ∷ []) ++ path_text at.now) subst.now)) }
 {
     put_entries_at(
         symbols,
@@ -138,7 +139,7 @@ fn put_rewrite(
     into: &mut Bytes,
 ) -> Result<(), AllocError>
     ensures text { OnOk result (into.new ≡ into.old ++ entries_text symbols.now (codes "rewrite") (numbers_text (s ∷ j ∷ []) ++ path_text at.now) subst.now) }
-    ensures kept { KeepsFront into.old into.new }
+    ensures front { OnErr result (AddsFront into.old into.new (entries_text symbols.now (codes "rewrite") (numbers_text (s ∷ j ∷ []) ++ path_text at.now) subst.now)) }
 {
     put_entries_at(
         symbols,
@@ -150,7 +151,7 @@ fn put_rewrite(
     )
 }
 
-#[tactic(auto, using(std::proofs::Common::append_assoc))]
+#[tactic(auto, using(std::proofs::Common::append_assoc, crate::proofs::Fronts::adds_first, crate::proofs::Fronts::adds_next))]
 fn put_entries(
     symbols: &Symbols,
     word: &[u8],
@@ -159,14 +160,14 @@ fn put_entries(
     into: &mut Bytes,
 ) -> Result<(), AllocError>
     ensures text { OnOk result (into.new ≡ into.old ++ entries_text symbols.now word.now (numbers_text places.now) subst.now) }
-    ensures kept { KeepsFront into.old into.new }
+    ensures front { OnErr result (AddsFront into.old into.new (entries_text symbols.now word.now (numbers_text places.now) subst.now)) }
 {
     put_front(word, into)?;
     put_numbers(places, into)?;
     put_subst(symbols, subst, into)
 }
 
-#[tactic(auto, using(std::proofs::Common::append_assoc))]
+#[tactic(auto, using(std::proofs::Common::append_assoc, crate::proofs::Fronts::adds_first, crate::proofs::Fronts::adds_next))]
 fn put_entries_at(
     symbols: &Symbols,
     word: &[u8],
@@ -176,7 +177,7 @@ fn put_entries_at(
     into: &mut Bytes,
 ) -> Result<(), AllocError>
     ensures text { OnOk result (into.new ≡ into.old ++ entries_text symbols.now word.now (numbers_text places.now ++ path_text at.now) subst.now) }
-    ensures kept { KeepsFront into.old into.new }
+    ensures front { OnErr result (AddsFront into.old into.new (entries_text symbols.now word.now (numbers_text places.now ++ path_text at.now) subst.now)) }
 {
     put_front(word, into)?;
     put_numbers(places, into)?;
@@ -186,24 +187,24 @@ fn put_entries_at(
 
 fn put_front(word: &[u8], into: &mut Bytes) -> Result<(), AllocError>
     ensures text { OnOk result (into.new ≡ into.old ++ (word.now ++ codes ",[status(thm),at(")) }
-    ensures kept { KeepsFront into.old into.new }
+    ensures front { OnErr result (AddsFront into.old into.new (word.now ++ codes ",[status(thm),at(")) }
 {
     put_both(word, b",[status(thm),at(", into)
 }
 
-#[tactic(auto, using(std::proofs::Common::append_assoc))]
+#[tactic(auto, using(std::proofs::Common::append_assoc, crate::proofs::Fronts::adds_first, crate::proofs::Fronts::adds_next))]
 fn put_both(first: &[u8], second: &[u8], into: &mut Bytes) -> Result<(), AllocError>
     ensures text { OnOk result (into.new ≡ into.old ++ (first.now ++ second.now)) }
-    ensures kept { KeepsFront into.old into.new }
+    ensures front { OnErr result (AddsFront into.old into.new (first.now ++ second.now)) }
 {
     put_bytes(into, first)?;
     put_bytes(into, second)
 }
 
-#[tactic(auto, using(std::proofs::Common::append_assoc))]
+#[tactic(auto, using(std::proofs::Common::append_assoc, crate::proofs::Fronts::adds_first, crate::proofs::Fronts::adds_next))]
 fn put_path(path: &[u16], into: &mut Bytes) -> Result<(), AllocError>
     ensures text { OnOk result (into.new ≡ into.old ++ path_text path.now) }
-    ensures kept { KeepsFront into.old into.new }
+    ensures front { OnErr result (AddsFront into.old into.new (path_text path.now)) }
 {
     put_bytes(into, b",[")?;
     put_numbers(path, into)?;
@@ -211,10 +212,10 @@ fn put_path(path: &[u16], into: &mut Bytes) -> Result<(), AllocError>
 }
 
 // The end of a rule: its substitution.
-#[tactic(auto, using(std::proofs::Common::append_assoc))]
+#[tactic(auto, using(std::proofs::Common::append_assoc, crate::proofs::Fronts::adds_first, crate::proofs::Fronts::adds_next))]
 fn put_subst(symbols: &Symbols, subst: &[Term], into: &mut Bytes) -> Result<(), AllocError>
     ensures text { OnOk result (into.new ≡ into.old ++ (codes "),subst([" ++ (separated (codes ",") (term_text symbols.now) subst.now ++ codes "])]"))) }
-    ensures kept { KeepsFront into.old into.new }
+    ensures front { OnErr result (AddsFront into.old into.new ((codes "),subst([" ++ (separated (codes ",") (term_text symbols.now) subst.now ++ codes "])]")))) }
 {
     put_bytes(into, b"),subst([")?;
     put_terms(symbols, subst, into)?;
@@ -223,7 +224,7 @@ fn put_subst(symbols: &Symbols, subst: &[Term], into: &mut Bytes) -> Result<(), 
 
 fn put_numbers(numbers: &[u16], into: &mut Bytes) -> Result<(), AllocError>
     ensures text { OnOk result (into.new ≡ into.old ++ numbers_text numbers.now) }
-    ensures kept { KeepsFront into.old into.new }
+    ensures front { OnErr result (AddsFront into.old into.new (numbers_text numbers.now)) }
 {
     match numbers {
         [] => Ok(()),
@@ -231,10 +232,10 @@ fn put_numbers(numbers: &[u16], into: &mut Bytes) -> Result<(), AllocError>
     }
 }
 
-#[tactic(auto, using(std::proofs::Common::append_assoc, crate::proofs::Separated::separated_first))]
+#[tactic(auto, using(std::proofs::Common::append_assoc, crate::proofs::Fronts::adds_first, crate::proofs::Fronts::adds_next, crate::proofs::Separated::separated_first))]
 fn put_some_numbers(first: u16, others: &[u16], into: &mut Bytes) -> Result<(), AllocError>
     ensures text { OnOk result (into.new ≡ into.old ++ numbers_text (first ∷ others.now)) }
-    ensures kept { KeepsFront into.old into.new }
+    ensures front { OnErr result (AddsFront into.old into.new (numbers_text (first ∷ others.now))) }
 {
     put_number(into, u64::from(first))?;
     put_further(others, into)
@@ -242,8 +243,8 @@ fn put_some_numbers(first: u16, others: &[u16], into: &mut Bytes) -> Result<(), 
 
 #[tactic(auto, using(std::proofs::Common::append_assoc))]
 fn put_further(numbers: &[u16], into: &mut Bytes) -> Result<(), AllocError>
-    ensures text { OnOk result (into.new ≡ into.old ++ flat_map (λ n. codes "," ++ decimal n) numbers.now) }
-    ensures kept { KeepsFront into.old into.new }
+    ensures text { OnOk result (into.new ≡ into.old ++ flat_map (λ n. codes "," ++ numeral n) numbers.now) }
+    ensures front { OnErr result (AddsFront into.old into.new (flat_map (λ n. codes "," ++ numeral n) numbers.now)) }
 {
     for number in numbers {
         put_bytes(into, b",")?;

@@ -1,7 +1,8 @@
 //! Terms.
-ghost use Rattle.std.specs.Prelude.{◌≡◌, ◌++◌, ◌∷◌, if◌then◌else◌, codes, decimal, map, slice_get, OnOk};
+ghost use Rattle.std.specs.Prelude.{◌≡◌, ◌++◌, ◌∷◌, if◌then◌else◌, codes, map, slice_get, OnOk, OnErr};
 ghost use Rattle.std.specs.List.{flat_map};
-ghost use Rattle.cd_text.specs.Fronts.{KeepsFront};
+ghost use Rattle.cd_text.specs.Fronts.{AddsFront};
+ghost use Rattle.cd_text.specs.Numerals.{numeral};
 ghost use Rattle.cd_text.specs.Texts.{arguments_text, separated, symbol_text, term_text};
 
 use crate::words::{put_bytes, put_number, put_word};
@@ -13,7 +14,7 @@ use std::alloc::AllocError;
 /// Appends the word of a symbol, and nothing where the table has no such symbol.
 pub(crate) fn put_symbol(symbols: &Symbols, symbol: u16, into: &mut Bytes) -> Result<(), AllocError>
     ensures text { OnOk result (into.new ≡ into.old ++ symbol_text (slice_get symbols.now symbol)) }
-    ensures kept { KeepsFront into.old into.new }
+    ensures front { OnErr result (AddsFront into.old into.new (symbol_text (slice_get symbols.now symbol))) }
 {
     if usize::from(symbol) < symbols.len() {
         put_word(into, symbols.text(symbol).as_bytes())
@@ -25,7 +26,7 @@ pub(crate) fn put_symbol(symbols: &Symbols, symbol: u16, into: &mut Bytes) -> Re
 /// Appends a term: a variable as `X` and its number, a symbol as its word and its arguments.
 pub(crate) fn put_term(symbols: &Symbols, term: &Term, into: &mut Bytes) -> Result<(), AllocError>
     ensures text { OnOk result (into.new ≡ into.old ++ term_text symbols.now term.now) }
-    ensures kept { KeepsFront into.old into.new }
+    ensures front { OnErr result (AddsFront into.old into.new (term_text symbols.now term.now)) }
 {
     match term {
         Term::Var(k) => put_variable(*k, into),
@@ -43,8 +44,8 @@ pub(crate) fn put_term(symbols: &Symbols, term: &Term, into: &mut Bytes) -> Resu
 }
 
 fn put_variable(k: u32, into: &mut Bytes) -> Result<(), AllocError>
-    ensures text { OnOk result (into.new ≡ into.old ++ (codes "X" ++ decimal k)) }
-    ensures kept { KeepsFront into.old into.new }
+    ensures text { OnOk result (into.new ≡ into.old ++ (codes "X" ++ numeral k)) }
+    ensures front { OnErr result (AddsFront into.old into.new (codes "X" ++ numeral k)) }
 {
     put_bytes(into, b"X")?;
     put_number(into, u64::from(k))
@@ -53,7 +54,7 @@ fn put_variable(k: u32, into: &mut Bytes) -> Result<(), AllocError>
 // What stands before an argument.
 fn put_front(first: bool, into: &mut Bytes) -> Result<(), AllocError>
     ensures text { OnOk result (into.new ≡ into.old ++ (if first then codes "(" else codes ",")) }
-    ensures kept { KeepsFront into.old into.new }
+    ensures front { OnErr result (AddsFront into.old into.new (if first then codes "(" else codes ",")) }
 {
     if first {
         put_bytes(into, b"(")
@@ -65,7 +66,7 @@ fn put_front(first: bool, into: &mut Bytes) -> Result<(), AllocError>
 // What stands behind the arguments, if there are any.
 fn put_end(none: bool, into: &mut Bytes) -> Result<(), AllocError>
     ensures text { OnOk result (into.new ≡ into.old ++ (if none then codes "" else codes ")")) }
-    ensures kept { KeepsFront into.old into.new }
+    ensures front { OnErr result (AddsFront into.old into.new ((if none then codes "" else codes ")"))) }
 {
     if none { Ok(()) } else { put_bytes(into, b")") }
 }
@@ -77,7 +78,7 @@ pub(crate) fn put_arguments(
     into: &mut Bytes,
 ) -> Result<(), AllocError>
     ensures text { OnOk result (into.new ≡ into.old ++ arguments_text (map (term_text symbols.now) args.now)) }
-    ensures kept { KeepsFront into.old into.new }
+    ensures front { OnErr result (AddsFront into.old into.new (arguments_text (map (term_text symbols.now) args.now))) }
 {
     match args {
         [] => Ok(()),
@@ -96,7 +97,7 @@ pub(crate) fn put_terms(
     into: &mut Bytes,
 ) -> Result<(), AllocError>
     ensures text { OnOk result (into.new ≡ into.old ++ separated (codes ",") (term_text symbols.now) terms.now) }
-    ensures kept { KeepsFront into.old into.new }
+    ensures front { OnErr result (AddsFront into.old into.new (separated (codes ",") (term_text symbols.now) terms.now)) }
 {
     match terms {
         [] => Ok(()),
@@ -104,7 +105,7 @@ pub(crate) fn put_terms(
     }
 }
 
-#[tactic(auto, using(std::proofs::Common::append_assoc, crate::proofs::Separated::separated_first))]
+#[tactic(auto, using(std::proofs::Common::append_assoc, crate::proofs::Fronts::adds_first, crate::proofs::Fronts::adds_next, crate::proofs::Separated::separated_first))]
 fn put_joined(
     symbols: &Symbols,
     first: &Term,
@@ -112,7 +113,7 @@ fn put_joined(
     into: &mut Bytes,
 ) -> Result<(), AllocError>
     ensures text { OnOk result (into.new ≡ into.old ++ separated (codes ",") (term_text symbols.now) (first.now ∷ others.now)) }
-    ensures kept { KeepsFront into.old into.new }
+    ensures front { OnErr result (AddsFront into.old into.new (separated (codes ",") (term_text symbols.now) (first.now ∷ others.now))) }
 {
     put_term(symbols, first, into)?;
     put_further(symbols, others, into)
@@ -121,7 +122,7 @@ fn put_joined(
 #[tactic(auto, using(std::proofs::Common::append_assoc))]
 fn put_further(symbols: &Symbols, terms: &[Term], into: &mut Bytes) -> Result<(), AllocError>
     ensures text { OnOk result (into.new ≡ into.old ++ flat_map (λ t. codes "," ++ term_text symbols.now t) terms.now) }
-    ensures kept { KeepsFront into.old into.new }
+    ensures front { OnErr result (AddsFront into.old into.new (flat_map (λ t. codes "," ++ term_text symbols.now t) terms.now)) }
 {
     for term in terms {
         put_bytes(into, b",")?;

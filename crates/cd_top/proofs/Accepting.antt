@@ -1,22 +1,21 @@
 -- The text of a finished run's refutation is accepted.
 use Rattle.std.proofs.Common.{◌≡◌, ℕ, true, List, ◌++◌, Some, codes, refl, ◌∙◌, arith}
 use Rattle.cd_read.specs.declared.problem.Problem.{Problem}
-use Rattle.cd_read.specs.Problems.{IsFormed, ArePropositional}
+use Rattle.cd_propositional_ledger.specs.Problems.{IsFormed, ArePropositional}
 use Rattle.cd_text.specs.declared.line.Line.{Line}
 use Rattle.cd_text.specs.Texts.{shown}
 use Rattle.cd_text.specs.Feeds.{feedless}
 use Rattle.cd_text.proofs.Feedless.{feedless-append, shown_feedless}
-use Rattle.cd_check.specs.Accepted.{AcceptedText}
-use Rattle.cd_check.specs.Lines.{IsComment}
-use Rattle.cd_check.proofs.Cuts.{derivation_taken}
-use Rattle.cd_ledger.specs.declared.Limits.{Limits}
-use Rattle.cd_ledger.specs.declared.Local.{Local}
-use Rattle.cd_ledger.specs.declared.Verdict.TheVariants.{Refuted}
-use Rattle.cd_peer.specs.Finished.{alone, IsFinished}
-use Rattle.cd_laws.specs.Right.{IsRight}
-use Rattle.cd_laws.proofs.RightLemmas.{runs_are_right}
-use Rattle.cd_build.specs.Derivation.{IsDerivation}
-use Rattle.cd_build.specs.Refuting.{IsPrintable, DerivationsRefute}
+use Rattle.cd_check.specs.Accepted.{IsRefutation, AcceptedText}
+use Rattle.cd_check.specs.Lines.{IsComment, RefutationsAreAccepted}
+use Rattle.cd_propositional_ledger.specs.declared.Limits.{Limits}
+use Rattle.cd_propositional_ledger.specs.declared.Local.{Local}
+use Rattle.cd_propositional_ledger.specs.declared.Verdict.TheVariants.{Refuted}
+use Rattle.cd_propositional_peer.specs.Finished.{alone, IsFinished}
+use Rattle.cd_propositional_laws.specs.Right.{IsRight}
+use Rattle.cd_propositional_laws.proofs.RightLemmas.{runs_are_right}
+use Rattle.cd_propositional_build.specs.Derivation.{IsDerivation}
+use Rattle.cd_propositional_build.specs.Refuting.{DerivationsRefute}
 use Rattle.cd_top.specs.Texts.{unsatisfiable_line, start_line, end_line, refuted_text}
 
 -- the state at the end of a run is right
@@ -24,7 +23,7 @@ pub finished_right : (p : Problem) (limits : Limits) (s : Local) → AreProposit
 finished_right p limits s all f = (runs_are_right p limits s.journal (alone s) all f.reached.run).0
 
 -- and the lines of its derivation are a refutation
-pub finished_refutes : DerivationsRefute → (p : Problem) (limits : Limits) (s : Local) (lines : List Line) → IsFormed p → ArePropositional p.inputs → IsFinished p limits s → s.verdict ≡ Some Refuted → IsDerivation p s lines → IsPrintable p lines
+pub finished_refutes : DerivationsRefute → (p : Problem) (limits : Limits) (s : Local) (lines : List Line) → IsFormed p → ArePropositional p.inputs → IsFinished p limits s → s.verdict ≡ Some Refuted → IsDerivation p s lines → IsRefutation p lines
 finished_refutes law p limits s lines formed all f refuted derivation =
     law p s lines (record { inputs = formed; right = finished_right p limits s all f; verdict = refuted; few = omega (arith, f.ready.room) }) derivation
 
@@ -41,10 +40,7 @@ second_comment name = record { begins = refl; one_line = named_feedless (codes "
 last_comment : (name : List ℕ) → IsComment (end_line name)
 last_comment name = record { begins = refl; one_line = named_feedless (codes "% SZS output end CNFRefutation for ") name refl }
 
-pub text_accepted : (p : Problem) (lines : List Line) → IsPrintable p lines → AcceptedText p (refuted_text p lines)
+pub text_accepted : RefutationsAreAccepted → (p : Problem) (lines : List Line) → IsRefutation p lines → AcceptedText p (refuted_text p lines)
 unfolding refuted_text
-text_accepted p lines printable = record {
-  lines = lines;
-  form = derivation_taken p.symbols (unsatisfiable_line p.name) (start_line p.name) (end_line p.name) lines (first_comment p.name) (second_comment p.name) (last_comment p.name) printable.fit;
-  refutes = printable.refutes;
-}
+text_accepted law p lines refutes =
+    law p (unsatisfiable_line p.name) (start_line p.name) (end_line p.name) lines (first_comment p.name) (second_comment p.name) (last_comment p.name) refutes

@@ -1,4 +1,3 @@
 pub mod Chains
 pub mod Accepting
 pub mod Ending
-pub mod Lines

@@ -1,15 +1,21 @@
 -- What the verdict of the one peer makes of the answer and of its text.
 -- Beyond the headline: no clause of `prove` reaches this file.
-use Rattle.std.specs.Prelude.{◌≡◌, ℕ, ⊤, List, Option, None, Some}
+use Rattle.std.specs.Prelude.{◌≡◌, ◌≢◌, ◌⊎◌, ℕ, ⊤, List, [], Option, None, Some}
 use Rattle.cd_read.specs.declared.problem.Problem.{Problem}
+use Rattle.cd_read.specs.declared.reader.ReadFault.{ReadFault}
+use Rattle.cd_read.specs.declared.reader.ReadFault.TheVariants as failure
 use Rattle.cd_text.specs.declared.line.Line.{Line}
-use Rattle.cd_ledger.specs.declared.Local.{Local}
-use Rattle.cd_ledger.specs.declared.Verdict.{Verdict}
-use Rattle.cd_ledger.specs.declared.Verdict.TheVariants as verdict
-use Rattle.cd_laws.specs.Right.{records_of}
-use Rattle.cd_build.specs.Derivation.{IsDerivation}
+use Rattle.cd_propositional_ledger.specs.declared.Local.{Local}
+use Rattle.cd_propositional_ledger.specs.Problems.{unbuilt_file}
+use Rattle.cd_propositional_ledger.specs.declared.Verdict.{Verdict}
+use Rattle.cd_propositional_ledger.specs.declared.Verdict.TheVariants as verdict
+use Rattle.cd_propositional_laws.specs.Right.{records_of}
+use Rattle.cd_propositional_build.specs.Derivation.{IsDerivation}
 use Rattle.cd_top.specs.declared.answer.Answer.{Answer}
-use Rattle.cd_top.specs.declared.answer.Answer.TheVariants.{Refuted, Saturated, Spent, Usage, Refused, LibraryFault, SinkFault, Memory}
+use Rattle.cd_top.specs.declared.answer.Answer.TheVariants.{Refuted, Saturated, Spent, Usage, Refused, NotBuilt, LibraryFault, SinkFault, Memory}
+use Rattle.cd_top.specs.declared.answer.Account.{Account}
+use Rattle.cd_read.specs.Fetched.{Told, Holds}
+use Rattle.cd_top.specs.Headline.{HasDefaults, RunEnds, Refutes, TextIs, IsRead, IsNotBuiltWhere, IsLibraryFault}
 use Rattle.cd_top.specs.Texts.{refuted_text, saturated_text, spent_text}
 
 abbrev pub verdict_answer : Option Verdict → Answer
@@ -32,6 +38,45 @@ IsRunAnswer Saturated = ⊤
 IsRunAnswer (Spent peer) = ⊤
 IsRunAnswer Usage = ⊥
 IsRunAnswer (Refused w) = ⊥
+IsRunAnswer (NotBuilt file) = ⊥
 IsRunAnswer (LibraryFault path) = ⊥
 IsRunAnswer SinkFault = ⊥
 IsRunAnswer Memory = ⊥
+
+-- the answer where there is no problem for this cause
+abbrev pub IsUnreadAnswer : ReadFault → Answer → Type 0
+IsUnreadAnswer (failure.Library path) made = made ≡ LibraryFault path
+IsUnreadAnswer (failure.Wrong w) made = made ≡ Refused w
+IsUnreadAnswer failure.Memory made = ⊥
+
+-- an account without a run
+pub record HasNoRun (account : Account) : Type 0 where
+  pub problem : account.problem ≡ None
+  pub journals : account.journals ≡ []
+  pub order : account.order ≡ []
+  pub defaults : HasDefaults account
+
+-- a problem from so many bytes is taken, and the answer is a run's; or it isn't, for a file's sake
+abbrev pub IsBuiltAnswer : Problem → ℕ → Answer → Account → Type 0
+IsBuiltAnswer p bytes made account =
+    ((unbuilt_file p bytes ≡ None) × IsRunAnswer made × (account.problem ≡ Some p))
+    ⊎ ((file : List ℕ) × (unbuilt_file p bytes ≡ Some file) × (made ≡ NotBuilt file) × (account.problem ≡ None))
+
+-- what an outcome is beside what was read
+pub record IsSound (made : Answer) (account : Account) : Type 0 where
+  pub defaults : HasDefaults account
+  pub run : RunEnds account made account.problem
+  pub refutes : Refutes made account.problem
+  pub text : TextIs made account.text
+  pub first : made ≢ SinkFault
+
+pub record IsBuiltOutcome (p : Problem) (bytes : ℕ) (made : Answer) (account : Account) : Type 0 where
+  pub built : IsBuiltAnswer p bytes made account
+  pub sound : IsSound made account
+
+-- the outcome before the first write, where `fails` is that the library's count of faults rose
+pub record IsMade (word : Option (List ℕ)) (holds : Holds) (before now : Told) (fails : Type 0) (made : Answer) (account : Account) : Type 0 where
+  pub read : IsRead word holds before now made account.problem
+  pub not_built : IsNotBuiltWhere word before now made
+  pub library : IsLibraryFault made → fails
+  pub sound : IsSound made account

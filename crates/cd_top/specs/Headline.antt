@@ -1,30 +1,34 @@
 -- What the top call promises of its answer.
-use Rattle.std.specs.Prelude.{◌≡◌, ℕ, ◌+◌, ◌⊎◌, ⊤, Bool, true, false, if◌then◌else◌, List, [], ◌∷◌, ◌++◌, length, map, sum_by, Option, None, Some}
+use Rattle.std.specs.Prelude.{◌≡◌, ◌≢◌, ◌↔◌, ℕ, ◌+◌, ◌⊎◌, ⊤, Bool, true, false, if◌then◌else◌, List, [], ◌∷◌, ◌++◌, length, map, sum_by, Option, None, Some}
 use Rattle.std.specs.Io.KnownBytes.{Appends}
 use Rattle.std.specs.List.{AllByRecursion}
-use Rattle.std.specs.declared.result.Result.TheVariants.{Ok, Err}
+use Rattle.std.specs.declared.result.Result.TheVariants.{Ok}
 use Rattle.cd_clause.specs.Truth.{HaveNoModel}
 use Rattle.cd_outside.specs.Outside.{AppendsFront, Gives}
 use Rattle.cd_read.specs.declared.problem.Problem.{Problem}
-use Rattle.cd_read.specs.Problems.{Reads, IsWhole, IsWholeWrong}
-use Rattle.cd_read.specs.Fetched.{Told}
+use Rattle.cd_read.specs.Files.{File, Reads}
+use Rattle.cd_read.specs.Fetched.{Told, Holds, GaveWhole, total, IsReadFault}
+use Rattle.cd_read.specs.declared.reader.ReadFault.{ReadFault}
+use Rattle.cd_read.specs.declared.reader.ReadFault.TheVariants as failure
 use Rattle.cd_text.specs.declared.line.Line.{Line}
 use Rattle.cd_check.specs.Accepted.{AcceptedText, input_clauses}
-use Rattle.cd_ledger.specs.declared.Act.TheVariants.{End}
-use Rattle.cd_ledger.specs.declared.Local.{Local}
-use Rattle.cd_ledger.specs.declared.Verdict.{Verdict}
-use Rattle.cd_ledger.specs.declared.Verdict.TheVariants as verdict
-use Rattle.cd_ledger.specs.World.{World, Runs, IsClosed, recorded, journal_of, has_empty, work_count, EndsWith}
-use Rattle.cd_ledger.specs.declared.Event.{Event}
-use Rattle.cd_laws.specs.Right.{records_of}
-use Rattle.cd_laws.specs.Accounts.{AreAccounted}
-use Rattle.cd_laws.specs.Models.{carried, recorded_clauses, HaveSameModels}
-use Rattle.cd_build.specs.Derivation.{IsDerivation}
+use Rattle.cd_propositional_ledger.specs.declared.Act.TheVariants.{End}
+use Rattle.cd_propositional_ledger.specs.declared.Local.{Local}
+use Rattle.cd_propositional_ledger.specs.declared.Verdict.{Verdict}
+use Rattle.cd_propositional_ledger.specs.declared.Verdict.TheVariants as verdict
+use Rattle.cd_propositional_ledger.specs.Problems.{unbuilt_file}
+use Rattle.cd_propositional_ledger.specs.World.{World, Runs, IsClosed, recorded, journal_of, has_empty, work_count, EndsWith}
+use Rattle.cd_propositional_ledger.specs.declared.Event.{Event}
+use Rattle.cd_propositional_laws.specs.Right.{records_of}
+use Rattle.cd_propositional_laws.specs.Accounts.{AreAccounted}
+use Rattle.cd_propositional_laws.specs.Models.{carried, recorded_clauses, HaveSameModels}
+use Rattle.cd_propositional_build.specs.Derivation.{IsDerivation}
 use Rattle.cd_top.specs.declared.answer.Answer.{Answer}
-use Rattle.cd_top.specs.declared.answer.Answer.TheVariants.{Refuted, Saturated, Spent, Usage, Refused, LibraryFault, SinkFault, Memory}
+use Rattle.cd_top.specs.declared.answer.Answer.TheVariants.{Refuted, Saturated, Spent, Usage, Refused, NotBuilt, LibraryFault, SinkFault, Memory}
 use Rattle.cd_top.specs.declared.answer.Account.{Account}
-use Rattle.cd_top.specs.Pieces.{pieces_of, StopsInLine}
-use Rattle.cd_top.specs.Texts.{refuted_text, saturated_text, spent_text, usage_text, refused_text, unread_text}
+use Rattle.cd_report.specs.Pieces.{pieces_of, StopsInLine}
+use Rattle.cd_report.specs.Texts.{usage_text, refused_text, unread_text}
+use Rattle.cd_top.specs.Texts.{refuted_text, saturated_text, spent_text, unbuilt_text}
 
 -- ---- the exit status
 
@@ -34,49 +38,50 @@ status_of Saturated = 1
 status_of (Spent peer) = 2
 status_of Usage = 64
 status_of (Refused wrong) = 65
+status_of (NotBuilt file) = 65
 status_of (LibraryFault path) = 66
 status_of Memory = 71
 status_of SinkFault = 74
 
 -- ---- words and files
 
--- the problem that the told bytes spell
-pub record IsProblemRead (word : Option (List ℕ)) (before now : Told) (problem : Option Problem) : Type 0 where
+-- the words name a file: from it on, the files that were told are read as this problem, each of them whole where the library tells what it
+-- holds; and this is the file for whose sake so far the problem isn't taken, if there is one
+pub record IsProblemRead (word : Option (List ℕ)) (holds : Holds) (before now : Told) (p : Problem) (unbuilt : Option (List ℕ)) : Type 0 where
   pub path : List ℕ
-  pub bytes : List ℕ
-  pub read : Problem
   pub word_is : word ≡ Some path
-  pub problem_is : problem ≡ Some read
-  pub told : Gives before now ((path, bytes) ∷ [])
-  pub reads : Reads path bytes (Ok read)
+  pub files : List File
+  pub told : GaveWhole holds before now files
+  pub reads : Reads files path (Ok p)
+  pub built : unbuilt_file p (total files) ≡ unbuilt
 
--- what was told of the files, and the problem, are those of the answer: words that are one path lead to its file, and what is told of it to
--- the problem or to its fault. Want of memory is free
-abbrev pub IsRead : Option (List ℕ) → Told → Told → Answer → Option Problem → Type 0
-IsRead word before now Usage problem = (word ≡ None) × (problem ≡ None) × Gives before now []
-IsRead word before now (Refused w) problem =
-    (path : List ℕ) × (bytes : List ℕ) × (word ≡ Some path) × (problem ≡ None) × Gives before now ((path, bytes) ∷ []) × Reads path bytes (Err w)
-IsRead word before now (LibraryFault path) problem = (word ≡ Some path) × (problem ≡ None) × Gives before now []
-IsRead word before now Memory problem = problem ≡ None
-IsRead word before now SinkFault problem = ⊥
-IsRead word before now (Refuted peer) problem = IsProblemRead word before now problem
-IsRead word before now Saturated problem = IsProblemRead word before now problem
-IsRead word before now (Spent peer) problem = IsProblemRead word before now problem
+-- and the account has it
+abbrev pub IsProblemTaken : Option (List ℕ) → Holds → Told → Told → Option Problem → Type 0
+IsProblemTaken word holds before now problem = (p : Problem) × (problem ≡ Some p) × IsProblemRead word holds before now p None
 
--- the problem is that of the whole file, where the library tells all bytes of its files
-abbrev pub IsWholeProblem : (List ℕ → Option (List ℕ)) → Option (List ℕ) → Option Problem → Type 0
-IsWholeProblem holds word problem = (path : List ℕ) (p : Problem) → word ≡ Some path → problem ≡ Some p → IsWhole path (holds path) p
+-- the words name a file, and from it on there is no problem for this cause
+abbrev pub IsUnread : Option (List ℕ) → Holds → Told → Told → ReadFault → Type 0
+IsUnread word holds before now fault = (path : List ℕ) × (word ≡ Some path) × IsReadFault path holds before now fault
 
--- what is read, or refused, is the whole file, where the library tells it
-abbrev pub IsOfFile : (List ℕ → Option (List ℕ)) → Option (List ℕ) → Answer → Option Problem → Type 0
-IsOfFile holds word Usage problem = ⊤
-IsOfFile holds word (Refused w) problem = (path : List ℕ) → word ≡ Some path → IsWholeWrong path (holds path) w
-IsOfFile holds word (LibraryFault path) problem = ⊤
-IsOfFile holds word Memory problem = ⊤
-IsOfFile holds word SinkFault problem = ⊤
-IsOfFile holds word (Refuted peer) problem = IsWholeProblem holds word problem
-IsOfFile holds word Saturated problem = IsWholeProblem holds word problem
-IsOfFile holds word (Spent peer) problem = IsWholeProblem holds word problem
+-- what was told of the files, in the order of their fetches, and the problem, are those of the answer: the files have that fault first, or
+-- that one is needed next, or they are a problem, which is taken or not. Want of memory is free
+abbrev pub IsRead : Option (List ℕ) → Holds → Told → Told → Answer → Option Problem → Type 0
+IsRead word holds before now Usage problem = (word ≡ None) × (problem ≡ None) × Gives before now []
+IsRead word holds before now (Refused w) problem = (problem ≡ None) × IsUnread word holds before now (failure.Wrong w)
+IsRead word holds before now (NotBuilt file) problem = (problem ≡ None) × ((p : Problem) × IsProblemRead word holds before now p (Some file))
+IsRead word holds before now (LibraryFault path) problem = (problem ≡ None) × IsUnread word holds before now (failure.Library path)
+IsRead word holds before now Memory problem = problem ≡ None
+IsRead word holds before now SinkFault problem = ⊥
+IsRead word holds before now (Refuted peer) problem = IsProblemTaken word holds before now problem
+IsRead word holds before now Saturated problem = IsProblemTaken word holds before now problem
+IsRead word holds before now (Spent peer) problem = IsProblemTaken word holds before now problem
+
+-- where the library tells its files, and they are read as a problem, the answer is that it isn't taken, for the sake of a file, exactly where
+-- that file stands in the way. Want of memory is free
+abbrev pub IsNotBuiltWhere : Option (List ℕ) → Told → Told → Answer → Type 0
+IsNotBuiltWhere word before now made =
+    (path : List ℕ) (all files : List File) (p : Problem) (file : List ℕ) → word ≡ Some path → before ≡ Some all → now ≡ Some (all ++ files)
+    → Reads files path (Ok p) → made ≢ Memory → (made ≡ NotBuilt file) ↔ (unbuilt_file p (total files) ≡ Some file)
 
 abbrev pub IsLibraryFault : Answer → Type 0
 IsLibraryFault (LibraryFault path) = ⊤
@@ -85,6 +90,7 @@ IsLibraryFault Saturated = ⊥
 IsLibraryFault (Spent peer) = ⊥
 IsLibraryFault Usage = ⊥
 IsLibraryFault (Refused w) = ⊥
+IsLibraryFault (NotBuilt file) = ⊥
 IsLibraryFault SinkFault = ⊥
 IsLibraryFault Memory = ⊥
 
@@ -166,6 +172,7 @@ EndsIn account p w Saturated = EndsSaturated account p w
 EndsIn account p w (Spent peer) = EndsSpent account p w peer
 EndsIn account p w Usage = ⊥
 EndsIn account p w (Refused wrong) = ⊥
+EndsIn account p w (NotBuilt file) = ⊥
 EndsIn account p w (LibraryFault path) = ⊥
 EndsIn account p w SinkFault = ⊥
 EndsIn account p w Memory = ⊥
@@ -185,6 +192,7 @@ Refutes Saturated problem = ⊤
 Refutes (Spent peer) problem = ⊤
 Refutes Usage problem = ⊤
 Refutes (Refused w) problem = ⊤
+Refutes (NotBuilt file) problem = ⊤
 Refutes (LibraryFault path) problem = ⊤
 Refutes SinkFault problem = ⊤
 Refutes Memory problem = ⊤
@@ -195,6 +203,7 @@ Refutes Memory problem = ⊤
 abbrev pub TextIs : Answer → List ℕ → Type 0
 TextIs Usage text = text ≡ usage_text
 TextIs (Refused w) text = text ≡ refused_text w
+TextIs (NotBuilt file) text = text ≡ unbuilt_text file
 TextIs (LibraryFault path) text = text ≡ unread_text path
 TextIs Memory text = text ≡ []
 TextIs (Refuted peer) text = ⊤
@@ -210,6 +219,7 @@ Taken Saturated before now text = Appends before now text
 Taken (Spent peer) before now text = Appends before now text
 Taken Usage before now text = Appends before now text
 Taken (Refused w) before now text = Appends before now text
+Taken (NotBuilt file) before now text = Appends before now text
 Taken (LibraryFault path) before now text = Appends before now text
 Taken Memory before now text = Appends before now text
 
@@ -222,6 +232,7 @@ TakenByLines Saturated bytes bytes_now pieces pieces_now text = Gives pieces pie
 TakenByLines (Spent peer) bytes bytes_now pieces pieces_now text = Gives pieces pieces_now (pieces_of text)
 TakenByLines Usage bytes bytes_now pieces pieces_now text = Gives pieces pieces_now (pieces_of text)
 TakenByLines (Refused w) bytes bytes_now pieces pieces_now text = Gives pieces pieces_now (pieces_of text)
+TakenByLines (NotBuilt file) bytes bytes_now pieces pieces_now text = Gives pieces pieces_now (pieces_of text)
 TakenByLines (LibraryFault path) bytes bytes_now pieces pieces_now text = Gives pieces pieces_now (pieces_of text)
 TakenByLines Memory bytes bytes_now pieces pieces_now text = Gives pieces pieces_now (pieces_of text)
 

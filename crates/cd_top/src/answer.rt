@@ -1,9 +1,9 @@
 //! What the top call answers.
 ghost use Rattle.std.specs.Prelude.{◌≡◌};
 
-use cd_ledger::{Journals, Limits};
 use cd_list::{Copied, Sequence, Text};
 use cd_outside::Bytes;
+use cd_propositional_ledger::{Journals, Limits};
 use cd_read::{Problem, Wrong};
 use std::alloc::{AllocError, Global};
 
@@ -18,8 +18,12 @@ pub enum Answer {
     Spent { peer: u16 },
     /// The words aren't one path.
     Usage,
-    /// The file isn't as it should be.
+    /// A file isn't as it should be.
     Refused(Wrong),
+    /// So far the peers don't take the problem that was read. `file` has the first input with anything but
+    /// predicates without arguments; where there is none, it is the first file, and there are more than 4,096
+    /// inputs, or more than 65,536 bytes over all files.
+    NotBuilt { file: Text },
     /// The library failed at the file with this path.
     LibraryFault { path: Text },
     /// The sink failed: it took a front of the text.
@@ -41,6 +45,7 @@ impl Answer {
             Answer::Spent { .. } => 2,
             Answer::Usage => 64,
             Answer::Refused(_) => 65,
+            Answer::NotBuilt { .. } => 65,
             Answer::LibraryFault { .. } => 66,
             Answer::Memory => 71,
             Answer::SinkFault => 74,
@@ -56,6 +61,10 @@ impl Copied for Answer {
             Answer::Spent { peer } => Ok(Answer::Spent { peer: *peer }),
             Answer::Usage => Ok(Answer::Usage),
             Answer::Refused(wrong) => Ok(Answer::Refused(wrong.copy(alloc)?)),
+            Answer::NotBuilt { file } => {
+                let file = file.copy(alloc)?;
+                Ok(Answer::NotBuilt { file })
+            }
             Answer::LibraryFault { path } => {
                 let path = path.copy(alloc)?;
                 Ok(Answer::LibraryFault { path })

@@ -1,18 +1,21 @@
 //! The call that the program makes.
-ghost use Rattle.std.specs.Prelude.{◌≡◌, ◌≢◌, ◌<◌, [], None, length, IfOk};
+ghost use Rattle.std.specs.Prelude.{◌≡◌, ◌≤◌, ◌*◌, ℕ, List, [], Option, None, Some, length, IfOk};
 ghost use Rattle.std.specs.Option.{option_copied};
 ghost use Rattle.cd_outside.specs.Outside.{Rose};
+ghost use Rattle.cd_read.specs.Formed.{IsFormed, IsBounded};
+ghost use Rattle.cd_top.specs.Ends.{IsUnreadAnswer, HasNoRun, IsBuiltOutcome, IsMade};
 ghost use Rattle.cd_top.specs.Words.{file_word, begins_with_hyphen};
-ghost use Rattle.cd_top.specs.Headline.{status_of, IsRead, IsOfFile, IsLibraryFault, HasDefaults, RunEnds, AtEachMoment, HasModelsOf, AccountsForAll, Refutes, TextIs, Taken, TakenByLines, IsAnswerTo};
+ghost use Rattle.cd_top.specs.Headline.{status_of, IsRead, IsNotBuiltWhere, IsLibraryFault, HasDefaults, RunEnds, AtEachMoment, HasModelsOf, AccountsForAll, Refutes, TextIs, Taken, TakenByLines, IsAnswerTo};
 
 use crate::answer::{Account, Answer, ProveOutcome};
-use crate::sending::send;
 use crate::solving::{STEPS, solve};
-use crate::texts::{refused_text, unread_text};
-use cd_ledger::Limits;
+use crate::texts::unbuilt_text;
 use cd_list::{Copied, Sequence, Text};
 use cd_outside::{Bytes, Gate, Library, Sink};
-use cd_read::{ReadFault, read_problem};
+use cd_propositional_ledger::{Limits, taken_problems_are_formed, unbuilt_file};
+use cd_read::laws::one_answer;
+use cd_read::{Problem, ReadFault, read_counted};
+use cd_report::{refused_text, send, unread_text, usage_text};
 use std::alloc::{AllocError, Global};
 use std::sync::Wait;
 use std::thread::Threads;
@@ -29,9 +32,9 @@ pub fn prove<R: Threads + Wait + Sync, L: Library, K: Sink, G: Gate + Sync>(
     sink: &mut K,
     _gate: &G,
 ) -> ProveOutcome
-    // The words name a file, and its bytes spell the problem.
-    ensures read { IsRead (file_word words.now) (L.told library.old) (L.told library.new) result.made result.account.problem }
-    ensures file { IsOfFile (L.holds library.old) (file_word words.now) result.made result.account.problem }
+    // The words name a file: it and the files that it includes spell the problem, or have this fault first.
+    ensures read { IsRead (file_word words.now) (L.holds library.old) (L.told library.old) (L.told library.new) result.made result.account.problem }
+    ensures not_built { IsNotBuiltWhere (file_word words.now) (L.told library.old) (L.told library.new) result.made }
     ensures library_fault { IsLibraryFault result.made → Rose (L.faults library.old) (L.faults library.new) }
 
     // The recorded run is one peer's. It ends where the answer says, it keeps the models of the problem and
@@ -125,30 +128,82 @@ fn make<L: Library>(
     words: &[Text],
     library: &mut L,
 ) -> Result<(Answer, Account), AllocError>
-    ensures read { IfOk result (λ r. IsRead (file_word words.now) (L.told library.old) (L.told library.new) r.0 r.1.problem) }
-    ensures file { IfOk result (λ r. IsOfFile (L.holds library.old) (file_word words.now) r.0 r.1.problem) }
-    ensures library_fault { IfOk result (λ r. IsLibraryFault r.0 → Rose (L.faults library.old) (L.faults library.new)) }
-    ensures defaults { IfOk result (λ r. HasDefaults r.1) }
-    ensures run { IfOk result (λ r. RunEnds r.1 r.0 r.1.problem) }
-    ensures refutes { IfOk result (λ r. Refutes r.0 r.1.problem) }
-    ensures text { IfOk result (λ r. TextIs r.0 r.1.text) }
-    ensures first { IfOk result (λ r. r.0 ≢ Answer.SinkFault) }
+    ensures { IfOk result (λ r. IsMade (file_word words.now) (L.holds library.old) (L.told library.old) (L.told library.new) (Rose (L.faults library.old) (L.faults library.new)) r.0 r.1) }
 {
-    let Some(path) = file_word(words) else {
-        let text = Sequence::from_slice(alloc, b"% aquarius usage\n")?;
-        return Ok((Answer::Usage, without_run(alloc, text)));
-    };
-    match read_problem(alloc, library, path) {
-        Err(ReadFault::Memory) => Err(AllocError),
-        Err(ReadFault::Library { path }) => {
+    one_answer();
+    match file_word(words) {
+        None => usage(alloc),
+        Some(path) => from_file(alloc, library, path),
+    }
+}
+
+// The answer to words that are no path.
+fn usage(alloc: Global) -> Result<(Answer, Account), AllocError>
+    ensures answer { IfOk result (λ r. r.0 ≡ Answer.Usage) }
+    ensures text { IfOk result (λ r. TextIs r.0 r.1.text) }
+    ensures alone { IfOk result (λ r. HasNoRun r.1) }
+{
+    let text = usage_text(alloc)?;
+    Ok((Answer::Usage, without_run(alloc, text)))
+}
+
+// The answer to the file with this path.
+fn from_file<L: Library>(
+    alloc: Global,
+    library: &mut L,
+    path: &Text,
+) -> Result<(Answer, Account), AllocError>
+    ensures { IfOk result (λ r. (word : Option (List ℕ)) → word ≡ Some path.now
+        → IsMade word (L.holds library.old) (L.told library.old) (L.told library.new) (Rose (L.faults library.old) (L.faults library.new)) r.0 r.1) }
+{
+    one_answer();
+    match read_counted(alloc, library, path) {
+        Err(fault) => unread(alloc, fault),
+        Ok(counted) => answered(alloc, counted.0, counted.1),
+    }
+}
+
+// The answer where there is no problem.
+fn unread(alloc: Global, fault: ReadFault) -> Result<(Answer, Account), AllocError>
+    ensures answer { IfOk result (λ r. IsUnreadAnswer fault r.0) }
+    ensures text { IfOk result (λ r. TextIs r.0 r.1.text) }
+    ensures alone { IfOk result (λ r. HasNoRun r.1) }
+{
+    match fault {
+        ReadFault::Memory => Err(AllocError),
+        ReadFault::Library { path } => {
             let text = unread_text(alloc, &path)?;
             Ok((Answer::LibraryFault { path }, without_run(alloc, text)))
         }
-        Err(ReadFault::Wrong(wrong)) => {
+        ReadFault::Wrong(wrong) => {
             let text = refused_text(alloc, &wrong)?;
             Ok((Answer::Refused(wrong), without_run(alloc, text)))
         }
-        Ok(problem) => solve(alloc, problem),
+    }
+}
+
+// The answer where so far a problem isn't taken, for the sake of this file.
+fn unbuilt(alloc: Global, file: &Text) -> Result<(Answer, Account), AllocError>
+    ensures answer { IfOk result (λ r. r.0 ≡ Answer.NotBuilt file.now) }
+    ensures text { IfOk result (λ r. TextIs r.0 r.1.text) }
+    ensures alone { IfOk result (λ r. HasNoRun r.1) }
+{
+    let text = unbuilt_text(alloc, file)?;
+    let file = file.copy(alloc)?;
+    Ok((Answer::NotBuilt { file }, without_run(alloc, text)))
+}
+
+// The answer to a problem that was read from so many bytes.
+fn answered(alloc: Global, problem: Problem, bytes: u64) -> Result<(Answer, Account), AllocError>
+    requires formed { IsFormed problem }
+    requires bounded { IsBounded problem }
+    requires symbols { 2 * length problem.symbols ≤ bytes }
+    ensures { IfOk result (λ r. IsBuiltOutcome problem bytes r.0 r.1) }
+{
+    taken_problems_are_formed();
+    match unbuilt_file(&problem, bytes) {
+        Some(file) => unbuilt(alloc, file),
+        None => solve(alloc, problem),
     }
 }
 

@@ -7,7 +7,6 @@
 
 mod answer;
 mod call;
-mod sending;
 mod solving;
 mod texts;
 

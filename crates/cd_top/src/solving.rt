@@ -1,17 +1,18 @@
 //! Runs the peer on a problem, and says what came of it.
-ghost use Rattle.std.specs.Prelude.{◌≡◌, ◌≤◌, [], Some, length, replicate, IfOk};
-ghost use Rattle.cd_read.specs.Problems.{IsFormed, ArePropositional};
-ghost use Rattle.cd_laws.specs.Right.{IsRight};
+ghost use Rattle.std.specs.Prelude.{◌≡◌, Some, length, replicate, IfOk};
+ghost use Rattle.cd_propositional_ledger.specs.Problems.{IsTaken};
+ghost use Rattle.cd_propositional_laws.specs.Right.{IsRight};
 ghost use Rattle.cd_top.specs.Ends.{verdict_answer, IsVerdictText, IsRunAnswer};
 ghost use Rattle.cd_top.specs.Headline.{HasDefaults, RunEnds, Refutes};
 
 use crate::answer::{Account, Answer, Turns};
 use crate::texts::{refuted_text, saturated_text, spent_text};
-use cd_build::{derivation, derivations_refute};
-use cd_ledger::{Event, Events, Limits, Local, Verdict};
+use cd_check::refutations_are_accepted;
 use cd_list::Sequence;
 use cd_outside::Bytes;
-use cd_peer::run;
+use cd_propositional_build::{derivation, derivations_refute};
+use cd_propositional_ledger::{Event, Events, Limits, Local, Verdict};
+use cd_propositional_peer::run;
 use cd_read::Problem;
 use std::alloc::{AllocError, Global};
 
@@ -20,9 +21,7 @@ pub const STEPS: u64 = 50_000;
 
 /// The answer to a problem, and the account of its run.
 pub fn solve(alloc: Global, problem: Problem) -> Result<(Answer, Account), AllocError>
-    requires formed { IsFormed problem }
-    requires few { length problem.inputs ≤ 4096 }
-    requires propositional { ArePropositional problem.inputs }
+    requires { IsTaken problem }
     ensures problem { IfOk result (λ r. r.1.problem ≡ Some problem) }
     ensures defaults { IfOk result (λ r. HasDefaults r.1) }
     ensures run { IfOk result (λ r. RunEnds r.1 r.0 (Some problem)) }
@@ -30,6 +29,7 @@ pub fn solve(alloc: Global, problem: Problem) -> Result<(Answer, Account), Alloc
     ensures answer { IfOk result (λ r. IsRunAnswer r.0) }
 {
     derivations_refute();
+    refutations_are_accepted();
     let limits = Limits { steps: STEPS };
     let local = run(alloc, &problem, limits)?;
     let answer = answer_of(&local);

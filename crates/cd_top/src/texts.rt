@@ -2,51 +2,27 @@
 ghost use Rattle.std.specs.Prelude.{◌≡◌, ◌++◌, [], ◌∷◌, map, IfOk, OnOk};
 ghost use Rattle.std.specs.List.{flat_map};
 ghost use Rattle.cd_text.specs.Texts.{shown};
-ghost use Rattle.cd_laws.specs.Right.{record_of};
-ghost use Rattle.cd_top.specs.Texts.{with_feed, lines_text, refuted_text, held_line, counts_line, saturated_text, spent_line, spent_text, what_text, refused_text, unread_text};
+ghost use Rattle.cd_propositional_laws.specs.Right.{record_of};
+ghost use Rattle.cd_top.specs.Texts.{with_feed, lines_text, refuted_text, held_line, counts_line, saturated_text, spent_line, spent_text, unbuilt_text};
 
-use cd_ledger::{Known, Record};
 use cd_list::{Sequence, Text};
 use cd_outside::Bytes;
-use cd_read::{Problem, What, Wrong};
+use cd_propositional_ledger::{Known, Record};
+use cd_read::Problem;
 use cd_symbols::Symbols;
 use cd_text::{Line, clause_text, line_text, put_number, put_quoted, put_shown};
 use std::alloc::{AllocError, Global};
 
-/// `% aquarius cannot read 'PATH'`
-#[tactic(auto, using(std::proofs::Common::append_assoc), unfolding(crate::specs::Texts::unread_text))]
-pub fn unread_text(alloc: Global, path: &Text) -> Result<Bytes, AllocError>
-    ensures { IfOk result (λ text. text ≡ unread_text path.now) }
+/// `% aquarius refused, not built, file 'FILE', byte 0`
+#[tactic(auto, using(std::proofs::Common::append_assoc), unfolding(crate::specs::Texts::unbuilt_text))]
+pub fn unbuilt_text(alloc: Global, file: &Text) -> Result<Bytes, AllocError>
+    ensures { IfOk result (λ text. text ≡ unbuilt_text file.now) }
 {
     let mut text = Sequence::new(alloc);
-    text.extend(b"% aquarius cannot read ")?;
-    put_quoted(&mut text, path.as_bytes())?;
-    text.extend(b"\n")?;
+    text.extend(b"% aquarius refused, not built, file ")?;
+    put_quoted(&mut text, file.as_bytes())?;
+    text.extend(b", byte 0\n")?;
     Ok(text)
-}
-
-/// `% aquarius refused, WORD, file 'FILE', byte PLACE`
-#[tactic(auto, using(std::proofs::Common::append_assoc), unfolding(crate::specs::Texts::refused_text))]
-pub fn refused_text(alloc: Global, wrong: &Wrong) -> Result<Bytes, AllocError>
-    ensures { IfOk result (λ text. text ≡ refused_text wrong.now) }
-{
-    let mut text = Sequence::new(alloc);
-    text.extend(b"% aquarius refused, ")?;
-    put_what(&mut text, wrong.what)?;
-    text.extend(b", file ")?;
-    put_quoted(&mut text, wrong.file.as_bytes())?;
-    text.extend(b", byte ")?;
-    put_number(&mut text, u64::from(wrong.at))?;
-    text.extend(b"\n")?;
-    Ok(text)
-}
-
-fn put_what(into: &mut Bytes, what: What) -> Result<(), AllocError>
-    ensures { OnOk result (into.new ≡ into.old ++ what_text what) }
-{
-    match what {
-        What::NotBuilt => into.extend(b"not built"),
-    }
 }
 
 /// The lines of a derivation between the lines that say what they are.

@@ -1,5 +1,5 @@
 -- Terms and lists of terms bound to others.
-use Rattle.std.proofs.Common.{◌≡◌, ℕ, ◌<◌, ◌≤◌, Bool, true, false, List, [], ◌∷◌, ◌++◌, length, map, get_or, set, ap, sym, ◌∙◌, refl, arith, subst, unwrap_or, take, Option, None, Some, Bor}
+use Rattle.std.proofs.Common.{◌≡◌, ℕ, ◌<◌, ◌≤◌, Bool, true, false, List, [], ◌∷◌, ◌++◌, length, map, get_or, set, ap, sym, ◌∙◌, refl, subst, unwrap_or, take, Option, None, Some, Bor}
 use Rattle.std.specs.Option.{option_copied}
 use Rattle.std.proofs.lemmas.List.{take_all, get_or-map, map-set, length-map}
 use Rattle.cd_term.specs.declared.Term.{Term}

@@ -4,4 +4,4 @@ use Rattle.cd_term.specs.Terms.{variables_of, firsts_after}
 use Rattle.cd_clause.proofs.renumbering.note_terms.Given as goal
 
 abbrev pub invariant-loop-term : goal.invariant-loop-term
-invariant-loop-term l = l.seen ≡ firsts_after l.initial.seen (flat_map variables_of (take l.term-index l.terms))
+invariant-loop-term l = l.seen.keys ≡ firsts_after l.initial.seen.keys (flat_map variables_of (take l.term-index l.terms))

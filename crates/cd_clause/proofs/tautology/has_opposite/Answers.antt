@@ -1,6 +1,7 @@
 use Rattle.std.proofs.Common.{refl}
 use Rattle.std.proofs.lemmas.Bool.{false≢true}
 use Rattle.cd_clause.specs.Clauses.{AreOpposite}
+use Rattle.cd_clause.proofs.TautologyLemmas.{negative_none}
 use Rattle.cd_list.proofs.Among.{among_read, among_next, among_none}
 use Rattle.cd_clause.proofs.tautology.has_opposite.Goals as goal
 
@@ -15,3 +16,7 @@ loop-other-preserved c = λ some.
 pub returns : goal.returns
 returns c =
     (λ e. absurd (false≢true e), λ some. absurd (among_none (AreOpposite c.args.l.now) _ _ c.loop-other-test.false (c.loop-other.invariant some)))
+
+pub returns-then-not-l : goal.returns-then-not-l
+returns-then-not-l c =
+    (λ e. absurd (false≢true e), λ some. absurd (negative_none c.args.l.now c.args.others.now c.if-not-l.true some))

@@ -1,11 +1,11 @@
-use Rattle.cd_names.specs.declared.How.TheVariants.{Reduces}
-use Rattle.cd_contract.proofs.Hitting.{subsumes_way, refused_way}
+use Rattle.cd_contract.proofs.Hitting.{subsumes_way}
 use Rattle.cd_contract.proofs.contracting.contracts.Goals as goal
 
-pub returns-then-not-may_reduce : goal.returns-then-not-may_reduce
-returns-then-not-may_reduce c =
-    refused_way c.args.order.now c.args.how Reduces c.args.d.now c.args.c.now c.in-Reduces.is
-    (c.may_reduce.ensures c.if-not-may_reduce.true c.args.order.now c.args.d.now c.args.c.now c.requires.row c.requires.sought)
+pub reduces_from-requires-clause-left : goal.reduces_from-requires-clause-left
+reduces_from-requires-clause-left c = λ out. c.may_reduce_left-from_left.ensures out c.args.order.now c.args.d.now c.args.c.now c.requires.row c.requires.sought
+
+pub reduces_from-requires-clause-right : goal.reduces_from-requires-clause-right
+reduces_from-requires-clause-right c = λ out. c.may_reduce_right-from_right.ensures out c.args.order.now c.args.d.now c.args.c.now c.requires.row c.requires.sought
 
 pub returns-in-Some : goal.returns-in-Some
 returns-in-Some c =

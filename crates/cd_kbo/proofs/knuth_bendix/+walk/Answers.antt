@@ -11,7 +11,7 @@ use Rattle.cd_kbo.proofs.knuth_bendix.+walk.Goals.{in_default-via-in-Symbol+in_d
 
 pub returns-then-is_ne-clause-greater : goal.returns-then-is_ne-clause-greater
 returns-then-is_ne-clause-greater t c = judged (InBlock c.args.base) c.args.order.now (term_of c.args.s) (term_of c.args.t)
-    ((k : ℕ) → k < 64 → get_or c.weigh-light.new.table k 0 ≤ get_or c.weigh-heavy.new.table k 0)
+    ((k : ℕ) → k < 16 → get_or c.weigh-light.new.table k 0 ≤ get_or c.weigh-heavy.new.table k 0)
     c.decided.result c.is_lt.result c.weigh-heavy.result c.weigh-light.result c.decided.ensures
     (tables_cover c.args.base (term_of c.args.s) (term_of c.args.t) c.args.left.now c.args.right.now c.weigh-heavy.new.table c.weigh-light.new.table
     c.requires.alike c.requires.room_left c.requires.room_right c.weigh-heavy.ensures.table c.weigh-light.ensures.table)
@@ -84,7 +84,7 @@ returns-after-loop-i-clause-same t c =
 
 pub returns-after-loop-i-clause-greater : goal.returns-after-loop-i-clause-greater
 returns-after-loop-i-clause-greater t c = judged (InBlock c.args.base) c.args.order.now (term_of c.args.s) (term_of c.args.t)
-    ((k : ℕ) → k < 64 → get_or c.loop-i.right k 0 ≤ get_or c.loop-i.left k 0)
+    ((k : ℕ) → k < 16 → get_or c.loop-i.right k 0 ≤ get_or c.loop-i.left k 0)
     c.decided-in-Symbol-Symbol.result c.loop-i.above c.saturating_add-heavy-in-Symbol-Symbol.result c.saturating_add-light-in-Symbol-Symbol.result c.decided-in-Symbol-Symbol.ensures
     (tables_cover c.args.base (term_of c.args.s) (term_of c.args.t) c.args.left.now c.args.right.now c.loop-i.left c.loop-i.right
     c.requires.alike c.requires.room_left c.requires.room_right (λ k lt. counted_all (c.args.base + k) (term_of c.args.s) c.in-Symbol-Symbol.f c.in-Symbol-Symbol.args.now c.loop-i.i _ _ (ap term_of c.in-Symbol-Symbol.is-0) c.loop-i-test.false (c.loop-i.invariant.left k lt)) (λ k lt. counted_all (c.args.base + k) (term_of c.args.t) c.in-Symbol-Symbol.g c.in-Symbol-Symbol.others.now c.loop-i.i _ _ (ap term_of c.in-Symbol-Symbol.is-1) (omega (arith, (heads_many c.args.order.now c.in-Symbol-Symbol.f c.in-Symbol-Symbol.g (length c.in-Symbol-Symbol.args.now) (length c.in-Symbol-Symbol.others.now) _ c.head_cmp-heads.ensures (sym c.is_ne.ensures ∙ c.if-is_ne.false)))) (c.loop-i.invariant.right k lt)))
@@ -114,7 +114,7 @@ returns-after-loop-i-clause-right t c = λ k lt.
 
 pub returns-in_default-clause-greater : goal.returns-in_default-clause-greater
 returns-in_default-clause-greater t c = judged (InBlock c.args.base) c.args.order.now (term_of c.args.s) (term_of c.args.t)
-    ((k : ℕ) → k < 64 → get_or c.weigh-light-in_default.new.table k 0 ≤ get_or c.weigh-heavy-in_default.new.table k 0)
+    ((k : ℕ) → k < 16 → get_or c.weigh-light-in_default.new.table k 0 ≤ get_or c.weigh-heavy-in_default.new.table k 0)
     c.decided-in_default.result false c.weigh-heavy-in_default.result c.weigh-light-in_default.result c.decided-in_default.ensures
     (tables_cover c.args.base (term_of c.args.s) (term_of c.args.t) c.args.left.now c.args.right.now c.weigh-heavy-in_default.new.table c.weigh-light-in_default.new.table
     c.requires.alike c.requires.room_left c.requires.room_right c.weigh-heavy-in_default.ensures.table c.weigh-light-in_default.ensures.table)

@@ -11,9 +11,9 @@ invariant-loop-i l = record {
   compared : Compared (InBlock l.base) l.order l.args l.others l.i l.same l.above;
   heavy : l.heavy ≡ min (sum_by (weight_of l.order) (take l.i l.args)) (2 ^ 64 - 1);
   light : l.light ≡ min (sum_by (weight_of l.order) (take l.i l.others)) (2 ^ 64 - 1);
-  left : (k : ℕ) → k < 64 → get_or l.left k 0 ≡
+  left : (k : ℕ) → k < 16 → get_or l.left k 0 ≡
       min (get_or l.fn.left k 0 + sum_by (occurrences (l.base + k)) (take l.i l.args)) (2 ^ 64 - 1);
-  right : (k : ℕ) → k < 64 → get_or l.right k 0 ≡
+  right : (k : ℕ) → k < 16 → get_or l.right k 0 ≡
       min (get_or l.fn.right k 0 + sum_by (occurrences (l.base + k)) (take l.i l.others)) (2 ^ 64 - 1);
 }
 

@@ -7,7 +7,7 @@ use Rattle.cd_kbo.proofs.variables.+weigh.Given as goal
 abbrev pub invariant-loop-arg : goal.invariant-loop-arg
 invariant-loop-arg l = record {
   weighed : l.total ≡ min (sum_by (weight_of l.order) (take l.arg-index l.args)) (2 ^ 64 - 1);
-  counted : (k : ℕ) → k < 64 → get_or l.table k 0 ≡
+  counted : (k : ℕ) → k < 16 → get_or l.table k 0 ≡
       min (get_or l.fn.table k 0 + sum_by (occurrences (l.base + k)) (take l.arg-index l.args)) (2 ^ 64 - 1);
 }
 

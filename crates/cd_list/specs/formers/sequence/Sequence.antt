@@ -1,8 +1,8 @@
 -- How a `Sequence` holds its items, for the types that hold themselves through one, as a term does through
--- Beyond the headline: no clause of `prove` reaches this file.
 -- its list of arguments. A value splits into a shape and its items as a list does, since the view of a
 -- `Sequence` is the list of the items that its vector holds; the invariant speaks of their number alone,
 -- which no change of the items changes.
+-- Beyond the headline: no clause of `prove` reaches this file.
 use native.Mathlib.Bridge.{le_prop}
 use mathlib.Core.Path.{◌≡◌, refl, sym, subst}
 use mathlib.Core.List.{List, []}

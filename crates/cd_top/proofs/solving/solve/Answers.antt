@@ -1,8 +1,8 @@
 use Rattle.std.proofs.Common.{◌≡◌, ◌∷◌, [], Some, length, replicate, List, sym, ap, ◌∙◌, refl, subst, rules}
 use Rattle.cd_text.specs.declared.line.Line.{Line}
-use Rattle.cd_build.specs.Derivation.{IsDerivation}
-use Rattle.cd_ledger.specs.declared.Event.{Event}
-use Rattle.cd_ledger.specs.declared.Verdict.TheVariants.{Refuted}
+use Rattle.cd_propositional_build.specs.Derivation.{IsDerivation}
+use Rattle.cd_propositional_ledger.specs.declared.Event.{Event}
+use Rattle.cd_propositional_ledger.specs.declared.Verdict.TheVariants.{Refuted}
 use Rattle.cd_top.specs.declared.answer.Account.{Account}
 use Rattle.cd_top.specs.declared.answer.Answer.{Answer}
 use Rattle.cd_top.specs.Headline.{RunEnds}
@@ -23,7 +23,7 @@ returns-clause-run c =
     let order = c.in_ok-order.ensures ∙ ap (λ (es : List Event). replicate (length es) 0) events in
     let account : IsAccountOf a p (record { steps = 50000 }) s = record { peers = refl; limits_are = refl; journals = journals; order = order; text = c.in_ok-text.ensures } in
     let accepted = λ (refuted : s.verdict ≡ Some Refuted) (lines : List Line) (derivation : IsDerivation p s lines).
-    text_accepted p lines (finished_refutes c.derivations_refute.ensures p (record { steps = 50000 }) s lines c.requires.formed c.requires.propositional c.in_ok-local.ensures refuted derivation) in
+    text_accepted c.refutations_are_accepted.ensures p lines (finished_refutes c.derivations_refute.ensures p (record { steps = 50000 }) s lines c.requires.formed c.requires.propositional c.in_ok-local.ensures refuted derivation) in
     subst (λ (m : Answer). RunEnds a m (Some p)) (sym c.answer_of-answer.ensures) (run_ends a p (record { steps = 50000 }) s c.in_ok-local.ensures account accepted)
 
 pub returns-clause-refutes : goal.returns-clause-refutes

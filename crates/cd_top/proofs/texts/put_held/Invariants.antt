@@ -1,6 +1,6 @@
 use Rattle.std.proofs.Common.{◌≡◌, ◌++◌, length, map}
 use Rattle.std.specs.List.{flat_map}
-use Rattle.cd_laws.specs.Right.{record_of}
+use Rattle.cd_propositional_laws.specs.Right.{record_of}
 use Rattle.cd_top.specs.Texts.{with_feed, held_line}
 use Rattle.cd_top.proofs.texts.put_held.Given as goal
 

@@ -2,7 +2,7 @@ use Rattle.std.proofs.Common.{◌++◌, codes, map, length, ap, ◌∙◌, sym}
 use Rattle.std.specs.List.{flat_map}
 use Rattle.std.proofs.lemmas.List.{length-map}
 use Rattle.cd_text.specs.Texts.{shown}
-use Rattle.cd_laws.specs.Right.{record_of}
+use Rattle.cd_propositional_laws.specs.Right.{record_of}
 use Rattle.cd_top.specs.Texts.{saturated_text, with_feed, counts_line, held_line}
 use Rattle.cd_top.proofs.Chains.{five_pieces}
 use Rattle.cd_top.proofs.texts.saturated_text.Goals as goal

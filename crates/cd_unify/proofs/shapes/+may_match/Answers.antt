@@ -1,5 +1,4 @@
 use Rattle.std.proofs.Common.{ap, arith, length, map, sym, ◌∙◌}
-use Rattle.cd_term.specs.declared.Term.TheVariants.{App}
 use Rattle.cd_term.specs.Terms.{substituted}
 use Rattle.cd_term.proofs.Equations.{substituted-App}
 use Rattle.cd_term.proofs.VariableLaws.{App-injective}

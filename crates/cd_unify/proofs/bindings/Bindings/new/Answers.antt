@@ -1,4 +1,3 @@
-use Rattle.cd_unify.specs.Bindings.{values_in}
 use Rattle.cd_unify.proofs.MatchLemmas.{nothing_fits}
 use Rattle.cd_unify.proofs.bindings.Bindings.new.Goals as goal
 

@@ -1,4 +1,4 @@
-use Rattle.std.proofs.Common.{None, arith, map, sym, ◌∙◌}
+use Rattle.std.proofs.Common.{None, arith, sym, ◌∙◌}
 use Rattle.std.specs.Option.{option_copied}
 use Rattle.std.proofs.lemmas.List.{length-map, length-set, map-set, set_past}
 use Rattle.cd_term.specs.declared.Term.{Term}

@@ -1,0 +1,2 @@
+cnf(a,axiom,p(X)).
+cnf(b,axiom,~p(f(X))).

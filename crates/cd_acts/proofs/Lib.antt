@@ -1,0 +1,11 @@
+pub mod Lists
+pub mod Names
+pub mod Strikes
+pub mod Several
+pub mod Answering
+pub mod Arrivals
+pub mod Items
+pub mod Acts
+pub mod Ready
+pub mod Waves
+pub mod Fresh

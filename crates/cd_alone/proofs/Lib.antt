@@ -1,0 +1,9 @@
+pub mod Fine
+pub mod Led
+pub mod Project
+pub mod Ready
+pub mod Runs
+pub mod Turning
+pub mod Choosing
+pub mod Lines
+pub mod Refuting

@@ -1,0 +1,4 @@
+pub mod Ready
+pub mod Alone
+pub mod Going
+pub mod Derived

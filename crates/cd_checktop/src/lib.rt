@@ -1,0 +1,9 @@
+//! The call that the checker program makes.
+#![tactic(auto)]
+
+mod answer;
+mod call;
+mod texts;
+
+pub use answer::{CheckAnswer, CheckOutcome};
+pub use call::check;

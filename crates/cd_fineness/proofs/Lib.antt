@@ -1,0 +1,3 @@
+pub mod Symbolic
+pub mod Replaying
+pub mod Fine

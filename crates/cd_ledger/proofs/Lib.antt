@@ -1,5 +1,0 @@
-pub mod Empty
-pub mod TidyItems
-pub mod Resolvents
-pub mod LeanLemmas
-pub mod FewLemmas

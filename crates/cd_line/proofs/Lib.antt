@@ -1,0 +1,13 @@
+pub mod Fronts
+pub mod Symbols
+pub mod Words
+pub mod Items
+pub mod Terms
+pub mod Clauses
+pub mod Rules
+pub mod Numbers
+pub mod Plain
+pub mod Lines
+pub mod Found
+pub mod Sound
+pub mod Capped

@@ -1,0 +1,16 @@
+pub mod Rules
+pub mod Right
+pub mod Lists
+pub mod Contraction
+pub mod Hits
+pub mod Arrivals
+pub mod Acts
+pub mod Tokens
+pub mod Events
+pub mod Fits
+pub mod Turns
+pub mod World
+pub mod Spread
+pub mod Carried
+pub mod Schedule
+pub mod Laws

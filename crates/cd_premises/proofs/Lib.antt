@@ -1,0 +1,9 @@
+pub mod Keys
+pub mod Steps
+pub mod Rewrites
+pub mod Conclusions
+pub mod Decisions
+pub mod Tests
+pub mod Formed
+pub mod Whole
+pub mod Runs

@@ -1,0 +1,5 @@
+pub mod Premises
+pub mod Right
+pub mod Formed
+pub mod Models
+pub mod Accounts

@@ -1,0 +1,6 @@
+pub mod ProblemLemmas
+pub mod Empty
+pub mod TidyItems
+pub mod Resolvents
+pub mod LeanLemmas
+pub mod FewLemmas

@@ -1,0 +1,5 @@
+pub mod Problems
+pub mod Lean
+pub mod Names
+pub mod Machine
+pub mod World

@@ -1,5 +1,0 @@
-use Rattle.cd_source.proofs.Outcomes.{outcome_single}
-use Rattle.cd_source.proofs.laws.one_outcome.Goals as goal
-
-pub returns : goal.returns
-returns c = outcome_single

@@ -1,9 +1,0 @@
-pub mod Meaning
-pub mod Files
-pub mod Formed
-pub mod Fetched
-pub mod Laws
-pub mod Bounds
-pub mod Overflow
-pub mod Labels
-pub mod States
