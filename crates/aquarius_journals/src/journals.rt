@@ -1,7 +1,8 @@
 //! The journals that a run has beside its answer.
+use cd_ledger::{Act, Event};
 use cd_list::{Sequence, Text};
 use cd_outside::{OpenGate, Page, Shelf};
-use cd_propositional_ledger::{Act, Event, Task};
+use cd_tasks::Task;
 use cd_top::{ProveOutcome, prove};
 use std::alloc::{AllocError, Global};
 use std::sync::Wait;
@@ -29,8 +30,13 @@ fn is_act(act: &Act, expected: Expected) -> bool {
         Act::Work {
             task: Task::Pair(a, b),
         } => kind == b'p' && a.seq == first && b.seq == second,
+        Act::Rewrite { place: _ } => kind == b'r',
+        Act::Pass => kind == b't',
         Act::Declare => kind == b'd',
         Act::End { verdict: _ } => kind == b'e',
+        Act::Receive { letter: _ } => false,
+        Act::Admit { place: _ } => false,
+        Act::Reject { place: _ } => false,
     }
 }
 
@@ -95,5 +101,32 @@ const REFUTATION: [Expected; 7] = [
 fn the_journal_of_a_refutation_has_its_items_and_tasks(rt: HostRuntime) -> Result<(), AllocError> {
     let file = "cnf(a,axiom,p).\ncnf(b,axiom,~p).\n";
     assert!(rt; has_acts(&rt, rt.alloc(), file, REFUTATION.as_slice())?);
+    Ok(())
+}
+
+/// An item that an equation reduces is rewritten first, the equation concludes a tautology from itself, and with nothing left
+/// the token goes round twice.
+const SATURATION: [Expected; 13] = [
+    (b'k', 0, 0),
+    (b'r', 0, 0),
+    (b'k', 0, 0),
+    (b's', 0, 0),
+    (b'p', 0, 0),
+    (b'k', 0, 0),
+    (b's', 1, 0),
+    (b'p', 0, 1),
+    (b'p', 1, 1),
+    (b'p', 1, 0),
+    (b't', 0, 0),
+    (b't', 0, 0),
+    (b'd', 0, 0),
+];
+
+#[test]
+fn the_journal_of_a_saturation_has_rewritings_passes_and_the_declaration(
+    rt: HostRuntime,
+) -> Result<(), AllocError> {
+    let file = "cnf(a,axiom,f(a) = a).\ncnf(b,axiom,p(f(a))).\n";
+    assert!(rt; has_acts(&rt, rt.alloc(), file, SATURATION.as_slice())?);
     Ok(())
 }

@@ -74,8 +74,8 @@ const ROWS: [Row; 9] = [
         "cnf(a,axiom,p). include('u.p').",
         "cnf(b,axiom,q(X)).",
         NONE,
-        65,
-        "% aquarius refused, not built, file 'u.p', byte 0\n",
+        1,
+        "",
     ),
     (
         "include('u.p',[7]).",

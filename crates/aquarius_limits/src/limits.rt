@@ -57,56 +57,17 @@ fn units(alloc: Global, count: u64) -> Result<Bytes, AllocError> {
     Ok(file)
 }
 
-/// A file of 4,096 clauses of 16 bytes, which are the same, and of the bytes of a text.
-fn alike(alloc: Global, more: &str) -> Result<Bytes, AllocError> {
-    let mut file = Sequence::new(alloc);
-    for _ in 0u64..4_096 {
-        file.extend(b"cnf(a,axiom,p).\n")?;
-    }
-    file.extend(more.as_bytes())?;
-    Ok(file)
-}
-
 const SPENT: &str = "% SZS status ResourceOut for t.p
 % aquarius spent, peer 0, units 50000
 ";
 
-const REFUSED: &str = "% aquarius refused, not built, file 't.p', byte 0\n";
-
 #[test]
-fn a_peer_stops_at_its_fifty_thousandth_task_and_not_before(
+fn a_peer_stops_at_its_fifty_thousandth_unit_and_not_before(
     rt: HostRuntime,
 ) -> Result<(), AllocError> {
     for (count, status, text) in [(224, 2, SPENT), (223, 1, "")] {
         let file = units(rt.alloc(), count)?;
         assert!(rt; ends(&rt, rt.alloc(), file, status, text)?, "{count}");
-    }
-    Ok(())
-}
-
-/// Statements of 15 bytes, which are the same.
-fn statements(alloc: Global, count: u64) -> Result<Bytes, AllocError> {
-    let mut file = Sequence::new(alloc);
-    for _ in 0..count {
-        file.extend(b"cnf(a,axiom,p).")?;
-    }
-    Ok(file)
-}
-
-#[test]
-fn so_far_4096_inputs_are_taken_and_no_more(rt: HostRuntime) -> Result<(), AllocError> {
-    for (count, status, text) in [(4_096, 1, ""), (4_097, 65, REFUSED)] {
-        let file = statements(rt.alloc(), count)?;
-        assert!(rt; ends(&rt, rt.alloc(), file, status, text)?, "{count}");
-    }
-    Ok(())
-}
-
-#[test]
-fn so_far_65536_bytes_are_taken_and_no_more(rt: HostRuntime) -> Result<(), AllocError> {
-    for (more, status, text) in [("", 1, ""), ("\n", 65, REFUSED)] {
-        let file = alike(rt.alloc(), more)?;
-        assert!(rt; ends(&rt, rt.alloc(), file, status, text)?, "{more}");
     }
     Ok(())
 }

@@ -54,7 +54,7 @@ to_last : (xs : List Known) (e : Known) → Each IsNotEmpty xs → is_empty e.en
 to_last [] e h g = rw g refl
 to_last (x ∷ xs) e h g = rw h.0 (ap (λ (zs : List Known). x ∷ zs) (to_last xs e h.1 g))
 
-whole : (es : List Known) → EndsEmpty es → up_to_empty es ≡ es
+pub whole : (es : List Known) → EndsEmpty es → up_to_empty es ≡ es
 whole es end = ap up_to_empty end.split ∙ (to_last end.front end.last end.others end.empty ∙ sym end.split)
 
 -- a name that is wanted has the same record in both

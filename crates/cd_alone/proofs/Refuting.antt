@@ -1,4 +1,4 @@
--- The derivation of a lone peer.
+-- The derivation of a peer that is refuted.
 use Rattle.std.proofs.Common.{◌≡◌, List, [], ◌∷◌, refl, ap, ◌∙◌, subst}
 use Rattle.std.specs.Prelude.{Option, Some, true}
 use Rattle.cd_ledger.specs.declared.records.Known.{Known}
@@ -11,25 +11,27 @@ use Rattle.cd_machine.specs.Rules.{is_empty}
 use Rattle.cd_ledger.specs.Records.{GoesOnBehindCopy}
 use Rattle.cd_laws.specs.Premises.{Premises}
 use Rattle.cd_laws.specs.Rooted.{AreLed}
-use Rattle.cd_laws.proofs.Lists.{Each_right}
-use Rattle.cd_alone.specs.Alone.{Emptiness, EndsEmpty, IsAlone}
+use Rattle.cd_laws.proofs.Lists.{Each_right, Each_weaker}
+use Rattle.cd_alone.specs.Alone.{Emptiness, EndsEmpty}
 use Rattle.cd_alone.specs.Derived.{AloneRunsRefute, AreLines, IsRefutation, Line, ancestors}
-use Rattle.cd_alone.proofs.Runs.{alone_lawful}
+use Rattle.cd_alone.specs.Going.{Going, IsSensible}
+use Rattle.cd_alone.proofs.Runs.{going_run}
 use Rattle.cd_alone.proofs.Choosing.{ancestors_end, ancestors_led}
 use Rattle.cd_alone.proofs.Lines.{ends_weaker, lines_end, lines_exist, lines_right}
 use Rattle.cd_kbo.specs.declared.order.Order.{Order}
 
-module _ (order : Order) (q : Premises order) (p : Problem) (s : Local) (a : IsAlone order p s) (v : s.verdict ≡ Some Refuted) where
-  empty : EndsEmpty s.known
-  empty = subst (λ (u : Option Verdict). Emptiness u s.known) v a.emptiness
+module _ (order : Order) (q : Premises order) (p : Problem) (s : Local) (g : Going order p s) (v : s.verdict ≡ Some Refuted) where
+  pub empty : EndsEmpty s.known
+  empty = subst (λ (u : Option Verdict). Emptiness u s.known) v g.emptiness
 
-  led : AreLed p [] (ancestors s.known)
-  led = ancestors_led order q p s.known empty a.led
+  pub led : AreLed p [] (ancestors s.known)
+  led = ancestors_led order q p s.known empty g.led.led
 
   last_goes : GoesOnBehindCopy empty.last.entry.steps
-  last_goes = (Each_right (λ e. GoesOnBehindCopy e.entry.steps) empty.front (empty.last ∷ []) (subst (Each (λ e. GoesOnBehindCopy e.entry.steps)) empty.split a.behind_copy)).0
+  last_goes = (Each_right (λ e. GoesOnBehindCopy e.entry.steps) empty.front (empty.last ∷ [])
+      (subst (Each (λ e. GoesOnBehindCopy e.entry.steps)) empty.split (Each_weaker (IsSensible p) (λ e. GoesOnBehindCopy e.entry.steps) (λ e h. h.2) s.known g.led.right))).0
 
-  refutes : (lines : List Line) → AreLines p [] [] 0 (ancestors s.known) lines → IsRefutation p lines
+  pub refutes : (lines : List Line) → AreLines p [] [] 0 (ancestors s.known) lines → IsRefutation p lines
   refutes lines h =
       let x = ancestors_end s.known empty in
       record {
@@ -40,5 +42,5 @@ module _ (order : Order) (q : Premises order) (p : Problem) (s : Local) (a : IsA
 
 pub alone_refutes : (order : Order) → AloneRunsRefute order
 alone_refutes order q p start s events r v =
-    let a = alone_lawful order q p start s events r in
-    (lines_exist order q p [] [] 0 (ancestors s.known) (led order q p s a v), refutes order q p s a v)
+    let g = going_run order q p start s events r in
+    (lines_exist order q p [] [] 0 (ancestors s.known) (led order q p s g v), refutes order q p s g v)

@@ -1,5 +1,5 @@
 -- A record's tests, and what they decide.
-use Rattle.std.proofs.Common.{◌≡◌, ◌↔◌, ℕ, ◌+◌, ◌-◌, ◌^◌, ◌<◌, ◌≤◌, min, ◌%◌, ◌==◌, Bool, true, false, not, ◌&&◌, List, [], ◌∷◌, length, drop, get_or, eqb, refl, ap, sym, ◌∙◌, subst, arith}
+use Rattle.std.proofs.Common.{◌≡◌, ◌↔◌, ℕ, ◌+◌, ◌-◌, ◌^◌, ◌<◌, ◌≤◌, min, Bool, true, false, not, ◌&&◌, List, [], ◌∷◌, length, drop, get_or, eqb, refl, sym, ◌∙◌, subst, arith}
 use Rattle.std.specs.Prelude.{Option, Some, None}
 use Rattle.std.specs.List.{AllByRecursion as Each, list_all}
 use Rattle.std.proofs.lemmas.Bool.{false≢true, eqb-true}
@@ -11,7 +11,6 @@ use Rattle.cd_ledger.specs.declared.records.Record.{Record}
 use Rattle.cd_machine.specs.Fits.{IsFine}
 use Rattle.cd_machine.specs.Right.{Lead, registry_of}
 use Rattle.cd_machine.specs.Rules.{IsFit, IsTautology, IsTidied}
-use Rattle.cd_names.specs.declared.names.Name.{Name}
 use Rattle.cd_read.specs.declared.problem.Problem.{Problem}
 use Rattle.cd_steps.specs.declared.Step.{Step}
 use Rattle.cd_steps.specs.declared.Step.TheVariants as step

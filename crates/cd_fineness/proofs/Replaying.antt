@@ -1,6 +1,6 @@
 -- What a step gives over the records of a peer.
 use Rattle.std.proofs.Common.{◌≡◌, ℕ, Bool, true, false, List, [], ◌∷◌, map, refl, ap, sym, ◌∙◌, subst}
-use Rattle.std.specs.Prelude.{slice_get, Option, Some, None, Result, Ok, Err}
+use Rattle.std.specs.Prelude.{slice_get, Option, Some, None, Result, Err}
 use Rattle.cd_clause.specs.declared.Clause.{Clause}
 use Rattle.cd_ledger.specs.Records.{Registry}
 use Rattle.cd_machine.specs.Right.{IsReplayed, standing}
@@ -15,7 +15,7 @@ use Rattle.cd_steps.specs.declared.Premise.TheVariants.{Before, Given, Named}
 use Rattle.cd_steps.specs.declared.Step.{Step}
 use Rattle.cd_steps.specs.declared.Step.TheVariants as step
 use Rattle.cd_term.specs.declared.TermFault.{TermFault}
-use Rattle.cd_term.specs.declared.TermFault.TheVariants.{OutOfBounds, Memory}
+use Rattle.cd_term.specs.declared.TermFault.TheVariants.{OutOfBounds}
 use Rattle.std.specs.Option.{option_map}
 use Rattle.cd_ledger.specs.declared.records.Known.{Known}
 use Rattle.cd_ledger.specs.declared.records.Record.{Record}
@@ -134,13 +134,13 @@ listed_before : (r : Premise × Option Premise) (ps : List Premise) → listed r
 listed_before (p, None) ps h = ap (λ qs. begins_before qs) h
 listed_before (p, Some q) ps h = ap (λ qs. begins_before qs) h
 
-module _ (p : Problem) (R : Registry) (current : Option Clause) (s : Step) (r : Premise × Option Premise) (behind f g : Option Clause) (before : Bool)
-    (is_listed : listed r ≡ premises s) (is_behind : behind ≡ current) (stands_first : f ≡ standing p R behind r.0) (stands_second : g ≡ standing_if_any (standing p R behind) r.1) (goes_on : before ≡ is_before r.0) where
+module _ (p : Problem) (R : Registry) (current : Option Clause) (s : Step) (r : Premise × Option Premise) (f g : Option Clause) (before : Bool)
+    (is_listed : listed r ≡ premises s) (stands_first : f ≡ standing p R current r.0) (stands_second : g ≡ standing_if_any (standing p R current) r.1) (goes_on : before ≡ is_before r.0) where
   is_first : f ≡ first_of (standing p R current) (premises s)
-  is_first = stands_first ∙ ap (λ (o : Option Clause). standing p R o r.0) is_behind ∙ listed_first (standing p R current) r (premises s) is_listed
+  is_first = stands_first ∙ listed_first (standing p R current) r (premises s) is_listed
 
   is_second : g ≡ second_of (standing p R current) (premises s)
-  is_second = stands_second ∙ ap (λ (o : Option Clause). standing_if_any (standing p R o) r.1) is_behind ∙ listed_second (standing p R current) r (premises s) is_listed
+  is_second = stands_second ∙ listed_second (standing p R current) r (premises s) is_listed
 
   is_begun : before ≡ begins_before (premises s)
   is_begun = goes_on ∙ listed_before r (premises s) is_listed

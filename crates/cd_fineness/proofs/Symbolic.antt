@@ -1,11 +1,7 @@
 -- Terms over the symbols of a table.
-use Rattle.std.proofs.Common.{◌≡◌, ◌↔◌, ℕ, Bool, true, false, eqb, List, length, refl, ap, sym, ◌∙◌, subst}
-use Rattle.std.specs.Prelude.{IsTrue, IfSome, Option, Some, None, slice_get}
+use Rattle.std.proofs.Common.{◌≡◌, ◌↔◌, ℕ, true, false, List, length, refl, sym, ◌∙◌, subst}
+use Rattle.std.specs.Prelude.{IsTrue}
 use Rattle.std.proofs.lemmas.Bool.{false≢true}
-use Rattle.cd_read.specs.Formed.{is_function, is_predicate}
-use Rattle.cd_symbols.specs.Symbol.{Symbol}
-use Rattle.cd_symbols.specs.declared.Kind.{Kind}
-use Rattle.cd_symbols.specs.declared.Kind.TheVariants.{Function, Predicate}
 use Rattle.cd_term.specs.declared.Term.{Term}
 use Rattle.cd_term.specs.declared.Term.TheVariants.{App}
 use Rattle.cd_term.specs.Symbols.{AreOver, Symbols, is_over}

@@ -301,22 +301,21 @@ fn result_within(
 }
 
 /// The one clause that a step gives over the known records, within bounds and over the symbols of the problem, behind the
-/// clause before it; `None` exactly where there is none.
-fn replayed(
+/// clause before it; `None` exactly where there is none. The error is want of memory.
+pub fn replayed(
     alloc: Global,
     problem: &Problem,
     tasks: &Tasks,
     known: &Knowns,
-    current: &Option<Clause>,
+    behind: Option<&Clause>,
     step: &Step,
 ) -> Result<Option<Clause>, AllocError>
     requires names { AreNamesOf tasks.now.arrivals known.now }
     requires once { AreOnce known.now }
-    ensures { IfOk result (IsReplay problem.now (λ n. recorded n known.now) current.now step.now) }
+    ensures { IfOk result (IsReplay problem.now (λ n. recorded n known.now) (option_copied behind.entry) step.now) }
 {
     cd_steps::laws::registries();
     let (p, q) = step.premises();
-    let behind = current.as_ref();
     let first = standing(problem, tasks, known, behind, p);
     let second = standing_if_any(problem, tasks, known, behind, q);
     match result_within(alloc, step, first, second, is_before(p))? {
@@ -355,7 +354,7 @@ fn leads(
 {
     let mut current = None;
     for step in steps {
-        match replayed(alloc, problem, tasks, known, &current, step)? {
+        match replayed(alloc, problem, tasks, known, current.as_ref(), step)? {
             Some(next) => {
                 current = Some(next);
             }

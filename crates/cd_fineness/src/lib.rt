@@ -5,5 +5,5 @@
 pub mod fineness;
 pub mod symbols;
 
-pub use fineness::{is_acceptable, is_body_fine, is_fine, notice_holds};
+pub use fineness::{is_acceptable, is_body_fine, is_fine, notice_holds, replayed};
 pub use symbols::{is_fit, is_subst_fit};

@@ -24,7 +24,7 @@ use Rattle.cd_machine.specs.Rules.{symbols_of, IsFit}
 use Rattle.cd_premises.specs.Meets.{FormedInputsFit}
 
 module _ (p : Problem) where
-  formed-App : (f : ℕ) (ts : List Term) → is_term_formed p.symbols (App f ts) ≡ (is_function (length ts) (slice_get p.symbols f) && list_all (λ b. b) (map (is_term_formed p.symbols) ts))
+  pub formed-App : (f : ℕ) (ts : List Term) → is_term_formed p.symbols (App f ts) ≡ (is_function (length ts) (slice_get p.symbols f) && list_all (λ b. b) (map (is_term_formed p.symbols) ts))
   formed-App f ts = fold-App Bool (formed_step p.symbols) f ts
       ∙ ap (λ n. is_function n (slice_get p.symbols f) && list_all (λ (b : Bool). b) (map (is_term_formed p.symbols) ts)) (length-map ts (is_term_formed p.symbols))
 

@@ -1,73 +1,132 @@
 -- What the account of a finished run says of its answer.
-use Rattle.std.proofs.Common.{◌≡◌, ◌≢◌, ◌↔◌, ◌++◌, inl, inr, Result, Ok, Err, IfOk, ℕ, Bool, cond, List, [], ◌∷◌, length, replicate, sum_by, Option, Some, None, IsSome, refl, sym, ap, ◌∙◌, subst, append-nil, zero-add}
+use Rattle.std.proofs.Common.{◌≡◌, ◌≢◌, ◌+◌, ◌≤◌, ◌&&◌, ◌==◌, Result, Ok, Err, IfOk, ℕ, Bool, true, false, cond, List, [], ◌∷◌, length, map, replicate, sum_by, Option, Some, None, IsSome, refl, sym, ap, ◌∙◌, subst, append-nil, zero-add, arith}
+use Rattle.std.specs.Prelude.{filter_map, nat_lt, IsPermutation}
+use Rattle.std.specs.List.{AllByRecursion as Each, cons_option}
+use Rattle.std.proofs.lemmas.Bool.{lt-ltb}
+use Rattle.std.specs.List.Sorted.{IsStrictlySortedBy}
+use Rattle.std.specs.declared.cmp.Ordering.TheVariants.{Less}
 use Rattle.std.proofs.lemmas.List.{length-replicate}
-use Rattle.cd_clause.specs.Truth.{Models}
 use Rattle.cd_read.specs.declared.problem.Problem.{Problem}
-use Rattle.cd_text.specs.declared.line.Line.{Line}
-use Rattle.cd_check.specs.Accepted.{AcceptedText, input_clauses}
-use Rattle.cd_check.proofs.Refuting.{accepted_texts_refute}
-use Rattle.cd_read.specs.Files.{File, Reads, NeedsNext}
-use Rattle.cd_read.specs.Laws.{ReadingsAgree, ReadingsNeedNothing}
-use Rattle.cd_read.specs.declared.problem.Wrong.{Wrong}
-use Rattle.cd_read.specs.Fetched.{Told, Holds, total, IsReadCounted, IsReadFault, IsOfLibrary}
-use Rattle.cd_outside.specs.Outside.{Gives}
-use Rattle.cd_outside.proofs.Giving.{gives_none}
+use Rattle.cd_read.specs.Fetched.{Told, Holds, IsReadFrom, IsReadFault, IsOfLibrary}
 use Rattle.cd_read.specs.declared.reader.ReadFault.{ReadFault}
 use Rattle.cd_read.specs.declared.reader.ReadFault.TheVariants as failure
-use Rattle.cd_propositional_ledger.specs.Problems.{unbuilt_file}
-use Rattle.cd_propositional_ledger.specs.declared.Event.{Event}
-use Rattle.cd_propositional_ledger.specs.declared.Limits.{Limits}
-use Rattle.cd_propositional_ledger.specs.declared.Local.{Local}
-use Rattle.cd_propositional_ledger.specs.declared.Verdict.{Verdict}
-use Rattle.cd_propositional_ledger.specs.declared.Verdict.TheVariants as verdict
-use Rattle.cd_propositional_ledger.specs.Machine.{IsQuiet}
-use Rattle.cd_propositional_ledger.specs.World.{World, Runs, recorded}
-use Rattle.cd_propositional_peer.specs.Finished.{alone, VerdictSays, IsFinished}
-use Rattle.cd_propositional_laws.specs.Right.{records_of}
-use Rattle.cd_propositional_laws.specs.Models.{recorded_clauses, HaveSameModels}
-use Rattle.cd_propositional_laws.proofs.AccountLemmas.{runs_are_accounted}
-use Rattle.cd_propositional_laws.proofs.ModelsLemmas.{runs_keep_models, closed_runs_keep_models}
-use Rattle.cd_propositional_build.specs.Derivation.{IsDerivation}
+use Rattle.cd_text.specs.declared.line.Line.{Line}
+use Rattle.cd_check.specs.Accepted.{AcceptedText}
+use Rattle.cd_check.proofs.Refuting.{accepted_texts_refute}
+use Rattle.cd_outside.proofs.Giving.{gives_none}
+use Rattle.cd_names.specs.Orders.{name_cmp}
+use Rattle.cd_names.specs.declared.names.Name.{Name}
+use Rattle.cd_names.specs.declared.ownership.Policy.{Policy}
+use Rattle.cd_names.specs.declared.ownership.Policy.TheVariants.{Round}
+use Rattle.cd_ledger.specs.declared.events.Event.{Event}
+use Rattle.cd_ledger.specs.declared.events.Verdict.{Verdict}
+use Rattle.cd_ledger.specs.declared.events.Verdict.TheVariants as verdict
+use Rattle.cd_ledger.specs.declared.local.Limits.{Limits}
+use Rattle.cd_ledger.specs.declared.local.Local.{Local}
+use Rattle.cd_ledger.specs.declared.records.Known.{Known}
+use Rattle.cd_ledger.specs.declared.records.Record.{Record}
+use Rattle.cd_ledger.specs.Statuses.{is_held}
+use Rattle.cd_machine.specs.World.{World}
+use Rattle.cd_laws.specs.Statements.{Laws}
+use Rattle.cd_peer.specs.Plain.{plain}
+use Rattle.cd_premises.proofs.Runs.{runs_are_right}
+use Rattle.cd_search.specs.Recorded.{AreStarting, ChosenRun, MeetsBound, recorded}
+use Rattle.cd_search.specs.Search.{AreNumbered, IsFinished, VerdictSays, alone}
+use Rattle.cd_search.proofs.Runs.{run_of}
+use Rattle.cd_build.specs.Derivation.{IsDerivation}
 use Rattle.cd_top.specs.declared.answer.Account.{Account}
 use Rattle.cd_top.specs.declared.answer.Answer.{Answer}
-use Rattle.cd_top.specs.declared.answer.Answer.TheVariants.{Refuted, Saturated, Spent, Usage, Refused, NotBuilt, LibraryFault, SinkFault, Memory}
+use Rattle.cd_top.specs.declared.answer.Answer.TheVariants.{Refuted, Saturated, Spent, Limit, Usage, Refused, LibraryFault, SinkFault, Memory}
 use Rattle.cd_top.specs.Texts.{refuted_text, saturated_text, spent_text}
-use Rattle.cd_top.specs.Ends.{verdict_answer, IsVerdictText, IsRunAnswer, IsUnreadAnswer, HasNoRun, IsBuiltAnswer, IsBuiltOutcome, IsMade}
-use Rattle.cd_top.specs.Headline.{IsRecorded, EndsIn, RunEnds, AtEachMoment, HasModelsOf, AccountsForAll, HasDefaults, TextIs, Refutes, HasNoModel, is_spent, IsProblemRead, IsProblemTaken, IsRead, IsNotBuiltWhere, IsLibraryFault}
+use Rattle.cd_top.specs.Ends.{verdict_answer, IsVerdictText, IsRunAnswer, IsUnreadAnswer, HasNoRun, IsSolved, IsMade}
+use Rattle.cd_top.specs.Headline.{AreLive, IsFirst, IsRecorded, EndsIn, RunEnds, AtEachMoment, HasModelsOf, AccountsForAll, IsContracted, HasDefaults, TextIs, Refutes, HasNoModel, bound_of, is_spent, live_record, live_records, name_of, or_later, IsProblemTaken, IsRead, IsLibraryFault}
+
+-- ---- the account of one peer's run
 
 recorded_one : (es : List Event) → recorded (es ∷ []) (replicate (length es) 0) ≡ es
 recorded_one [] = refl
 recorded_one (e ∷ es) = ap (λ (l : List Event). e ∷ l) (recorded_one es)
 
 -- the account of the one peer's run
-pub record IsAccountOf (a : Account) (p : Problem) (limits : Limits) (s : Local) : Type 0 where
-  pub peers : a.peers ≡ 1
-  pub limits_are : a.limits ≡ limits
+pub record IsAccountOf (a : Account) (p : Problem) (s : Local) : Type 0 where
+  pub defaults : HasDefaults a
   pub journals : a.journals ≡ s.journal ∷ []
   pub order : a.order ≡ replicate (length s.journal) 0
   pub text : IsVerdictText p s s.verdict a.text
 
-account_recorded : (a : Account) (p : Problem) (limits : Limits) (s : Local) → IsFinished p limits s → IsAccountOf a p limits s → IsRecorded a p (alone s)
-account_recorded a p limits s f account =
-    let events : recorded a.journals a.order ≡ s.journal =
-    ap (λ (j : List (List Event)). recorded j a.order) account.journals ∙ ap (λ (o : List ℕ). recorded (s.journal ∷ []) o) account.order ∙ recorded_one s.journal in
-    let run : Runs p a.limits s.journal (alone s) = subst (λ (l : Limits). Runs p l s.journal (alone s)) (sym account.limits_are) f.reached.run in
-    let each : length a.order ≡ sum_by length a.journals =
-    ap (λ (o : List ℕ). length o) account.order ∙ length-replicate (length s.journal) 0 ∙ sym (zero-add (length s.journal)) ∙ ap (λ (j : List (List Event)). sum_by length j) (sym account.journals) in
-    record { run = subst (λ (es : List Event). Runs p a.limits es (alone s)) (sym events) run; journals = sym account.journals; order = each }
+abbrev pub fifty_thousand : Limits
+fifty_thousand = record { steps = 50000 }
 
--- what was recorded at the end of a closed run has the models of the problem
-recorded_models : (p : Problem) (limits : Limits) (s : Local) → IsFinished p limits s → IsQuiet s → HaveSameModels (recorded_clauses s) (input_clauses p.inputs)
-recorded_models p limits s f quiet interp is =
-    let same = closed_runs_keep_models p limits s.journal (alone s) f.reached.run (record { travelling = refl; quiet = (quiet, tt) }) interp is in
-    let one = append-nil (recorded_clauses s) in
-    (λ models. same.0 (subst (Models interp) (sym one) models), λ models. subst (Models interp) one (same.1 models))
+module _ (a : Account) (p : Problem) (s : Local) (f : IsFinished plain p Round fifty_thousand s) (account : IsAccountOf a p s) where
+  events : recorded a.journals a.order ≡ s.journal
+  events = ap (λ (j : List (List Event)). recorded j a.order) account.journals ∙ ap (λ (o : List ℕ). recorded (s.journal ∷ []) o) account.order ∙ recorded_one s.journal
+
+  first : IsFirst a p (alone f.underway.start)
+  first =
+      subst (λ (n : ℕ). AreStarting p n a.policy a.limits (alone f.underway.start)) (sym account.defaults.peers)
+      (subst (λ (o : Policy). AreStarting p 1 o a.limits (alone f.underway.start)) (sym account.defaults.policy)
+      (subst (λ (l : Limits). AreStarting p 1 Round l (alone f.underway.start)) (sym account.defaults.limits) f.underway.starting))
+
+  account_recorded : IsRecorded a p (alone f.underway.start) (alone s)
+  account_recorded = record {
+    starts = first;
+    run = subst (λ (es : List Event). ChosenRun plain p (alone f.underway.start) es (alone s)) (sym events) f.underway.run;
+    journals = sym account.journals;
+    order = ap (λ (o : List ℕ). length o) account.order ∙ length-replicate (length s.journal) 0 ∙ sym (zero-add (length s.journal)) ∙ ap (λ (j : List (List Event)). sum_by length j) (sym account.journals);
+  }
+
+-- ---- live clauses, in the order of names
+
+abbrev IsFrom : ℕ → Record → Type 0
+IsFrom k r = (r.name.peer ≡ 0) × (k ≤ r.name.seq)
+
+from_later : (k : ℕ) (rs : List Record) → Each (IsFrom (k + 1)) rs → Each (IsFrom k) rs
+from_later k [] h = tt
+from_later k (r ∷ rs) h = ((h.0.0, omega (arith, h.0.1)), from_later k rs h.1)
+
+live_from : (me k : ℕ) (es : List Known) → AreNumbered k es → Each (IsFrom k) (filter_map (live_record me) es)
+live_from me k [] h = tt
+live_from me k (e ∷ es) h =
+    let rest : Each (IsFrom k) (filter_map (live_record me) es) = from_later k (filter_map (live_record me) es) (live_from me (k + 1) es h.1) in
+    elim (is_held e && (e.entry.owner == me)) as (λ b. Each (IsFrom k) (cons_option (cond b (Some e.entry) None) (filter_map (live_record me) es))) [
+      | true ↦ ((ap (λ (n : Name). n.peer) h.0, (let z : e.entry.name.seq ≡ k = ap (λ (n : Name). n.seq) h.0 in omega (arith, z))), rest)
+      | false ↦ rest
+    ]
+
+-- a name of a smaller number comes before
+before_later : (n : Name) (k : ℕ) (rs : List Record) → n ≡ record { peer = 0; seq = k } → Each (IsFrom (k + 1)) rs → Each (λ m. name_cmp n m ≡ Less) (map name_of rs)
+before_later n k [] is h = tt
+before_later n k (r ∷ rs) is h =
+    ((let z : n.seq ≡ k = ap (λ (m : Name). m.seq) is in let less : nat_lt n.seq r.name.seq ≡ true = lt-ltb n.seq r.name.seq (omega (arith, z, h.0.1)) in rw less refl), before_later n k rs is h.1)
+
+live_sorted : (me k : ℕ) (es : List Known) → AreNumbered k es → IsStrictlySortedBy name_cmp (map name_of (filter_map (live_record me) es))
+unfolding IsStrictlySortedBy
+live_sorted me k [] h = tt
+live_sorted me k (e ∷ es) h =
+    let rest = live_sorted me (k + 1) es h.1 in
+    elim (is_held e && (e.entry.owner == me)) as (λ b. IsStrictlySortedBy name_cmp (map name_of (cons_option (cond b (Some e.entry) None) (filter_map (live_record me) es)))) [
+      | true ↦ (before_later e.entry.name k (filter_map (live_record me) es) h.0 (live_from me (k + 1) es h.1), rest)
+      | false ↦ rest
+    ]
+
+all_live : (s : Local) → AreNumbered 0 s.known → AreLive (alone s) (live_records s)
+all_live s numbered = record {
+  live = subst (λ (rs : List Record). IsPermutation rs (live_records s)) (sym (append-nil (live_records s))) (record { moves = []; below = tt; is = refl });
+  ordered = live_sorted s.me 0 s.known numbered;
+}
+
+-- ---- the answer
+
+-- what holds of the world at the end of a finished run
+finished_laws : (p : Problem) (s : Local) → IsFinished plain p Round fifty_thousand s → Laws plain p (alone s)
+finished_laws p s f =
+    (runs_are_right plain p Round fifty_thousand (alone f.underway.start) (alone s) s.journal f.underway.starting.starts (run_of plain p s.journal (alone f.underway.start) (alone s) f.underway.run)).laws
 
 -- the answer has its cause, by the verdict
-ends_by : (v : Option Verdict) (a : Account) (p : Problem) (limits : Limits) (s : Local) → s.verdict ≡ v → IsSome v → VerdictSays v s → IsFinished p limits s → IsAccountOf a p limits s → IsVerdictText p s v a.text
-    → (s.verdict ≡ Some verdict.Refuted → (lines : List Line) → IsDerivation p s lines → AcceptedText p (refuted_text p lines)) → EndsIn a p (alone s) (verdict_answer v)
-ends_by None a p limits s is ended says f account text accepted = absurd (cc ended)
-ends_by (Some verdict.Refuted) a p limits s is ended says f account text accepted = record {
+ends_by : (v : Option Verdict) (a : Account) (p : Problem) (s : Local) (f : IsFinished plain p Round fifty_thousand s) → s.verdict ≡ v → IsSome v → VerdictSays plain p f.underway.start s v → IsAccountOf a p s
+    → IsVerdictText p s v a.text → (s.verdict ≡ Some verdict.Refuted → (lines : List Line) → IsDerivation p s lines → AcceptedText p (refuted_text p lines)) → EndsIn a p (alone f.underway.start) (alone s) (verdict_answer v)
+ends_by None a p s f is ended says account text accepted = absurd (cc ended)
+ends_by (Some verdict.Refuted) a p s f is ended says account text accepted = record {
   state = s;
   least = ap (λ (b : Bool). cond b (Some (0, s)) None) says;
   lines = text.0;
@@ -75,52 +134,64 @@ ends_by (Some verdict.Refuted) a p limits s is ended says f account text accepte
   text = text.2;
   accepted = subst (AcceptedText p) (sym text.2) (accepted is text.0 text.1);
 }
-ends_by (Some verdict.Saturated) a p limits s is ended says f account text accepted = record {
+ends_by (Some verdict.Saturated) a p s f is ended says account text accepted = record {
   none = ap (λ (b : Bool). cond b (Some (0, s)) None) says.0;
-  closed = record { travelling = refl; quiet = (says.1, tt) };
-  state = s;
-  alone = refl;
-  text = text ∙ ap (λ (n : ℕ). saturated_text p n (records_of s)) (sym account.peers);
-  models = recorded_models p limits s f says.1;
+  no_bound = ap (λ (o : Option Verdict). or_later 0 (bound_of o) None) is;
+  unspent = ap (λ (o : Option Verdict). cond (is_spent o) (Some (0, s)) None) is;
+  closed = says.1;
+  records = live_records s;
+  live = all_live s f.underway.numbered;
+  text = text ∙ ap (λ (n : ℕ). saturated_text p n (live_records s)) (sym account.defaults.peers);
+  models = (finished_laws p s f).carries.closed says.1;
 }
-ends_by (Some verdict.Spent) a p limits s is ended says f account text accepted =
-    let steps : s.limits.steps ≡ a.limits.steps = ap (λ (l : Limits). l.steps) (f.reached.limits_are ∙ sym account.limits_are) in
+ends_by (Some verdict.Spent) a p s f is ended says account text accepted =
+    let steps : s.limits.steps ≡ a.limits.steps = ap (λ (l : Limits). l.steps) (f.underway.limits_are ∙ sym account.defaults.limits) in
     record {
       none = ap (λ (b : Bool). cond b (Some (0, s)) None) says.0;
+      no_bound = ap (λ (o : Option Verdict). or_later 0 (bound_of o) None) is;
       state = s;
       least = ap (λ (o : Option Verdict). cond (is_spent o) (Some (0, s)) None) is;
-      units = f.reached.counted ∙ says.1 ∙ steps;
+      units = f.underway.units ∙ says.1 ∙ steps;
       ends = says.2;
       text = text ∙ ap (λ (n : ℕ). spent_text p 0 n) steps;
     }
+ends_by (Some (verdict.Limit b)) a p s f is ended says account text accepted = record {
+  none = ap (λ (b : Bool). cond b (Some (0, s)) None) says.0;
+  least = ap (λ (o : Option Verdict). or_later 0 (bound_of o) None) is;
+  meets = subst (λ (es : List Event). MeetsBound plain p (alone f.underway.start) es 0 b) (sym (events a p s f account)) says.1;
+  text = text;
+}
 
-pub run_ends : (a : Account) (p : Problem) (limits : Limits) (s : Local) → IsFinished p limits s → IsAccountOf a p limits s
+pub run_ends : (a : Account) (p : Problem) (s : Local) → IsFinished plain p Round fifty_thousand s → IsAccountOf a p s
     → (s.verdict ≡ Some verdict.Refuted → (lines : List Line) → IsDerivation p s lines → AcceptedText p (refuted_text p lines)) → RunEnds a (verdict_answer s.verdict) (Some p)
-run_ends a p limits s f account accepted =
-    (alone s, account_recorded a p limits s f account, ends_by s.verdict a p limits s refl f.ended f.reached.says f account account.text accepted)
+run_ends a p s f account accepted =
+    (alone f.underway.start, alone s, account_recorded a p s f account, ends_by s.verdict a p s f refl f.ended f.underway.says account account.text accepted)
 
 -- what holds in every run from the problem holds at each moment of the recorded one
-at_each_moment : (Says : Problem → World → Type 0) (a : Account) (o : Option Problem) → ((p : Problem) (es : List Event) (w : World) → Runs p a.limits es w → Says p w) → AtEachMoment Says a o
-at_each_moment Says a None law = tt
-at_each_moment Says a (Some p) law = λ front rest w events run. law p front w run
+at_each_moment : (Says : Problem → World → Type 0) → ((p : Problem) (w : World) → Laws plain p w → Says p w) → (a : Account) (o : Option Problem) → AtEachMoment Says a o
+at_each_moment Says law a None = tt
+at_each_moment Says law a (Some p) = λ front rest first w events starts run. law p w (runs_are_right plain p a.policy a.limits first w front starts.starts run).laws
 
 pub keeps_models : (a : Account) (o : Option Problem) → AtEachMoment HasModelsOf a o
-keeps_models a o = at_each_moment HasModelsOf a o (λ p es w run. runs_keep_models p a.limits es w run)
+keeps_models = at_each_moment HasModelsOf (λ p w laws. laws.carries)
 
 pub accounts_for_all : (a : Account) (o : Option Problem) → AtEachMoment AccountsForAll a o
-accounts_for_all a o = at_each_moment AccountsForAll a o (λ p es w run. runs_are_accounted p a.limits es w run)
+accounts_for_all = at_each_moment AccountsForAll (λ p w laws. laws.tasks)
+
+pub is_contracted : (a : Account) (o : Option Problem) → AtEachMoment IsContracted a o
+is_contracted = at_each_moment IsContracted (λ p w laws. laws.contracted)
 
 -- an accepted text shows that there is no model
 refuted_has_none : (a : Account) (peer : ℕ) (p : Problem) → RunEnds a (Refuted peer) (Some p) → HasNoModel (Some p)
-refuted_has_none a peer p run = accepted_texts_refute p a.text run.2.accepted
+refuted_has_none a peer p run = accepted_texts_refute p a.text run.3.accepted
 
 pub run_refutes : (a : Account) (made : Answer) (p : Problem) → RunEnds a made (Some p) → Refutes made (Some p)
 run_refutes a (Refuted peer) p run = refuted_has_none a peer p run
 run_refutes a Saturated p run = tt
 run_refutes a (Spent peer) p run = tt
+run_refutes a (Limit peer b) p run = tt
 run_refutes a Usage p run = tt
 run_refutes a (Refused w) p run = tt
-run_refutes a (NotBuilt file) p run = tt
 run_refutes a (LibraryFault path) p run = tt
 run_refutes a SinkFault p run = tt
 run_refutes a Memory p run = tt
@@ -159,111 +230,28 @@ taken_is : (word : Option (List ℕ)) (holds : Holds) (before now : Told) (made 
 taken_is word holds before now (Refuted peer) problem run taken = taken
 taken_is word holds before now Saturated problem run taken = taken
 taken_is word holds before now (Spent peer) problem run taken = taken
+taken_is word holds before now (Limit peer b) problem run taken = taken
 taken_is word holds before now Usage problem run taken = absurd run
 taken_is word holds before now (Refused w) problem run taken = absurd run
-taken_is word holds before now (NotBuilt file) problem run taken = absurd run
 taken_is word holds before now (LibraryFault path) problem run taken = absurd run
 taken_is word holds before now SinkFault problem run taken = absurd run
 taken_is word holds before now Memory problem run taken = absurd run
 
-pub built_is : (word : Option (List ℕ)) (path : List ℕ) (holds : Holds) (before now : Told) (p : Problem) (bytes : ℕ) (made : Answer) (a : Account)
-    → word ≡ Some path → IsReadCounted path holds before now p bytes → IsBuiltAnswer p bytes made a → IsRead word holds before now made a.problem
-built_is word path holds before now p bytes made a named (files, told, reads, count) (inl (none, run, is)) =
-    taken_is word holds before now made a.problem run
-    (p, is, record { path = path; word_is = named; files = files; told = told; reads = reads; built = subst (λ (n : ℕ). unbuilt_file p n ≡ None) count none })
-built_is word path holds before now p bytes made a named (files, told, reads, count) (inr (file, some, is, without)) =
-    subst (λ (m : Answer). IsRead word holds before now m a.problem) (sym is)
-    (without, (p, record { path = path; word_is = named; files = files; told = told; reads = reads; built = subst (λ (n : ℕ). unbuilt_file p n ≡ Some file) count some }))
-
 run_first : (made : Answer) → IsRunAnswer made → made ≢ SinkFault
 run_first made run e = absurd (subst IsRunAnswer e run)
-
-pub built_first : (p : Problem) (bytes : ℕ) (made : Answer) (a : Account) → IsBuiltAnswer p bytes made a → made ≢ SinkFault
-built_first p bytes made a (inl (none, run, is)) = run_first made run
-built_first p bytes made a (inr (file, some, is, without)) = λ e. absurd (cc (is, e))
 
 run_no_library : (made : Answer) → IsRunAnswer made → IsLibraryFault made → ⊥
 run_no_library (Refuted peer) run library = library
 run_no_library Saturated run library = library
 run_no_library (Spent peer) run library = library
+run_no_library (Limit peer b) run library = library
 run_no_library Usage run library = run
 run_no_library (Refused w) run library = run
-run_no_library (NotBuilt file) run library = run
 run_no_library (LibraryFault path) run library = run
 run_no_library SinkFault run library = run
 run_no_library Memory run library = run
 
-pub built_no_library : (p : Problem) (bytes : ℕ) (made : Answer) (a : Account) → IsBuiltAnswer p bytes made a → IsLibraryFault made → ⊥
-built_no_library p bytes made a (inl (none, run, is)) library = run_no_library made run library
-built_no_library p bytes made a (inr (file, some, is, without)) library = subst IsLibraryFault is library
-
--- ---- what isn't taken so far
-
--- without memory nothing is said
-pub memory_not_built : (word : Option (List ℕ)) (before now : Told) (made : Answer) → made ≡ Memory → IsNotBuiltWhere word before now made
-memory_not_built word before now made is path all files p file named first last reads some = absurd (some is)
-
-cancel : {A : Type 0} (xs ys zs : List A) → xs ++ ys ≡ xs ++ zs → ys ≡ zs
-cancel [] ys zs e = e
-cancel (x ∷ xs) ys zs e = cancel xs ys zs (cc e)
-
-files_are : (before now : Told) (all files mine : List File) → before ≡ Some all → now ≡ Some (all ++ files) → Gives before now mine → mine ≡ files
-files_are before now all files mine first last gives =
-    cancel all mine files (sym (subst (λ (b : Told). Gives (Some all) b mine) last (subst (λ (b : Told). Gives b now mine) first gives)))
-
--- what is read of the files that were told
-reads_told : (word : Option (List ℕ)) (path mine : List ℕ) (files given : List File) (r : Result Problem Wrong) → word ≡ Some path → word ≡ Some mine → given ≡ files
-    → Reads given mine r → Reads files path r
-reads_told word path mine files given r named other same reads =
-    let p : mine ≡ path = cc (named, other) in
-    subst (λ (x : List ℕ). Reads files x r) p (subst (λ (fs : List File). Reads fs mine r) same reads)
-
-ok_same : (p q : Problem) → ◌≡◌ {A = Result Problem Wrong} (Ok p) (Ok q) → p ≡ q
-ok_same p q e = cc e
-
-ok_not : (p : Problem) (w : Wrong) → ◌≡◌ {A = Result Problem Wrong} (Ok p) (Err w) → ⊥
-ok_not p w e = absurd (cc e)
-
--- the problem that was read is that of the files that were told
-read_built : ReadingsAgree → (word : Option (List ℕ)) (holds : Holds) (before now : Told) (q p : Problem) (unbuilt : Option (List ℕ)) (path : List ℕ) (all files : List File)
-    → word ≡ Some path → before ≡ Some all → now ≡ Some (all ++ files) → Reads files path (Ok p) → IsProblemRead word holds before now q unbuilt → unbuilt_file p (total files) ≡ unbuilt
-read_built law word holds before now q p unbuilt path all files named first last reads r =
-    let same = files_are before now all files r.files first last r.told.told in
-    let problem : q ≡ p = ok_same q p (law files path (Ok q) (Ok p) (reads_told word path r.path files r.files (Ok q) named r.word_is same r.reads) reads) in
-    subst (λ (x : Problem). unbuilt_file x (total files) ≡ unbuilt) problem (subst (λ (fs : List File). unbuilt_file q (total fs) ≡ unbuilt) same r.built)
-
-not_where : (made : Answer) (file : List ℕ) (o : Option (List ℕ)) → (made ≡ NotBuilt file → ⊥) → o ≡ None → (made ≡ NotBuilt file) ↔ (o ≡ Some file)
-not_where made file o other none = (λ e. absurd (other e), λ e. absurd (cc (none, e)))
-
-taken_where : ReadingsAgree → (word : Option (List ℕ)) (holds : Holds) (before now : Told) (problem : Option Problem) (made : Answer) (p : Problem) (file path : List ℕ) (all files : List File)
-    → (made ≡ NotBuilt file → ⊥) → word ≡ Some path → before ≡ Some all → now ≡ Some (all ++ files) → Reads files path (Ok p) → IsProblemTaken word holds before now problem
-    → (made ≡ NotBuilt file) ↔ (unbuilt_file p (total files) ≡ Some file)
-taken_where law word holds before now problem made p file path all files other named first last reads (q, is, r) =
-    not_where made file (unbuilt_file p (total files)) other (read_built law word holds before now q p None path all files named first last reads r)
-
-pub not_built_where : ReadingsAgree → ReadingsNeedNothing → (word : Option (List ℕ)) (holds : Holds) (before now : Told) (made : Answer) (problem : Option Problem)
-    → IsRead word holds before now made problem → IsNotBuiltWhere word before now made
-not_built_where law apart word holds before now Usage problem (none, without, told) path all files p file named first last reads some = absurd (cc (none, named))
-not_built_where law apart word holds before now (Refused w) problem (without, (mine, other, (given, gave, has))) path all files p file named first last reads some =
-    let same = files_are before now all files given first last gave.told in
-    absurd (ok_not p w (law files path (Ok p) (Err w) reads (reads_told word path mine files given (Err w) named other same has)))
-not_built_where law apart word holds before now (LibraryFault q) problem (without, (mine, other, (given, gave, needs))) path all files p file named first last reads some =
-    let same = files_are before now all files given first last gave.told in
-    let at : mine ≡ path = cc (named, other) in
-    absurd (apart files path (Ok p) q reads (subst (λ (x : List ℕ). NeedsNext files x q) at (subst (λ (fs : List File). NeedsNext fs mine q) same needs)))
-not_built_where law apart word holds before now (NotBuilt g) problem (without, (q, r)) path all files p file named first last reads some =
-    let built = read_built law word holds before now q p (Some g) path all files named first last reads r in
-    (λ e. let h : g ≡ file = cc e in built ∙ ap (λ (f : List ℕ). Some f) h, λ e. let h : g ≡ file = cc (built, e) in ap (λ (f : List ℕ). NotBuilt f) h)
-not_built_where law apart word holds before now Memory problem read path all files p file named first last reads some = absurd (some refl)
-not_built_where law apart word holds before now SinkFault problem read path all files p file named first last reads some = absurd read
-not_built_where law apart word holds before now (Refuted peer) problem read path all files p file named first last reads some =
-    taken_where law word holds before now problem (Refuted peer) p file path all files (λ e. absurd (cc e)) named first last reads read
-not_built_where law apart word holds before now Saturated problem read path all files p file named first last reads some =
-    taken_where law word holds before now problem Saturated p file path all files (λ e. absurd (cc e)) named first last reads read
-not_built_where law apart word holds before now (Spent peer) problem read path all files p file named first last reads some =
-    taken_where law word holds before now problem (Spent peer) p file path all files (λ e. absurd (cc e)) named first last reads read
-
--- ---- outcomes
+-- ---- the outcome
 
 pub if_ok : {X E : Type 0} {P Q : X → Type 0} (r : Result X E) → ((x : X) → P x → Q x) → IfOk r P → IfOk r Q
 if_ok (Ok x) f p = f x p
@@ -281,30 +269,17 @@ run_text : (made : Answer) (text : List ℕ) → IsRunAnswer made → TextIs mad
 run_text (Refuted peer) text run = tt
 run_text Saturated text run = tt
 run_text (Spent peer) text run = tt
+run_text (Limit peer b) text run = tt
 run_text Usage text run = absurd run
 run_text (Refused w) text run = absurd run
-run_text (NotBuilt file) text run = absurd run
 run_text (LibraryFault path) text run = absurd run
 run_text SinkFault text run = absurd run
 run_text Memory text run = absurd run
 
-pub unbuilt_outcome : (p : Problem) (bytes : ℕ) (file : List ℕ) (made : Answer) (a : Account) → unbuilt_file p bytes ≡ Some file → made ≡ NotBuilt file → TextIs made a.text → HasNoRun a
-    → IsBuiltOutcome p bytes made a
-unbuilt_outcome p bytes file made a is named text alone = record {
-  built = inr (file, is, named, alone.problem);
-  sound = record {
-    defaults = alone.defaults;
-    run = no_run_ends a made alone;
-    refutes = subst (λ (m : Answer). Refutes m a.problem) (sym named) tt;
-    text = text;
-    first = λ e. absurd (cc (named, e));
-  };
-}
-
-pub solved_outcome : (p : Problem) (bytes : ℕ) (made : Answer) (a : Account) → unbuilt_file p bytes ≡ None → a.problem ≡ Some p → HasDefaults a → RunEnds a made (Some p) → Refutes made (Some p)
-    → IsRunAnswer made → IsBuiltOutcome p bytes made a
-solved_outcome p bytes made a none is defaults run refutes answer = record {
-  built = inl (none, answer, is);
+pub solved_is : (p : Problem) (made : Answer) (a : Account) → a.problem ≡ Some p → HasDefaults a → RunEnds a made (Some p) → Refutes made (Some p) → IsRunAnswer made → IsSolved p made a
+solved_is p made a is defaults run refutes answer = record {
+  answer = answer;
+  problem = is;
   sound = record {
     defaults = defaults;
     run = subst (RunEnds a made) (sym is) run;
@@ -314,36 +289,27 @@ solved_outcome p bytes made a none is defaults run refutes answer = record {
   };
 }
 
-pub unread_made : ReadingsAgree → ReadingsNeedNothing → (word : Option (List ℕ)) (path : List ℕ) (holds : Holds) (before now : Told) (fails : Type 0) (fault : ReadFault) (made : Answer) (a : Account)
+pub unread_made : (word : Option (List ℕ)) (path : List ℕ) (holds : Holds) (before now : Told) (fails : Type 0) (fault : ReadFault) (made : Answer) (a : Account)
     → word ≡ Some path → IsReadFault path holds before now fault → (IsOfLibrary fault → fails) → IsUnreadAnswer fault made → TextIs made a.text → HasNoRun a
     → IsMade word holds before now fails made a
-unread_made law apart word path holds before now fails fault made a named why rose is text alone =
-    let read = unread_is word path holds before now fault made a named why is alone in
-    record {
-      read = read;
-      not_built = not_built_where law apart word holds before now made a.problem read;
-      library = λ l. rose (unread_library fault made is l);
-      sound = record { defaults = alone.defaults; run = no_run_ends a made alone; refutes = unread_refutes fault made a.problem is; text = text; first = unread_first fault made is };
-    }
+unread_made word path holds before now fails fault made a named why rose is text alone = record {
+  read = unread_is word path holds before now fault made a named why is alone;
+  library = λ l. rose (unread_library fault made is l);
+  sound = record { defaults = alone.defaults; run = no_run_ends a made alone; refutes = unread_refutes fault made a.problem is; text = text; first = unread_first fault made is };
+}
 
-pub built_made : ReadingsAgree → ReadingsNeedNothing → (word : Option (List ℕ)) (path : List ℕ) (holds : Holds) (before now : Told) (fails : Type 0) (p : Problem) (bytes : ℕ) (made : Answer) (a : Account)
-    → word ≡ Some path → IsReadCounted path holds before now p bytes → IsBuiltOutcome p bytes made a → IsMade word holds before now fails made a
-built_made law apart word path holds before now fails p bytes made a named counted out =
-    let read = built_is word path holds before now p bytes made a named counted out.built in
-    record {
-      read = read;
-      not_built = not_built_where law apart word holds before now made a.problem read;
-      library = λ l. absurd (built_no_library p bytes made a out.built l);
-      sound = out.sound;
-    }
+pub solved_made : (word : Option (List ℕ)) (path : List ℕ) (holds : Holds) (before now : Told) (fails : Type 0) (p : Problem) (made : Answer) (a : Account)
+    → word ≡ Some path → IsReadFrom path holds before now p → IsSolved p made a → IsMade word holds before now fails made a
+solved_made word path holds before now fails p made a named (files, told, reads) out = record {
+  read = taken_is word holds before now made a.problem out.answer (p, out.problem, record { path = path; word_is = named; files = files; told = told; reads = reads });
+  library = λ l. absurd (run_no_library made out.answer l);
+  sound = out.sound;
+}
 
-pub usage_made : ReadingsAgree → ReadingsNeedNothing → (word : Option (List ℕ)) (holds : Holds) (before : Told) (fails : Type 0) (made : Answer) (a : Account)
+pub usage_made : (word : Option (List ℕ)) (holds : Holds) (before : Told) (fails : Type 0) (made : Answer) (a : Account)
     → word ≡ None → made ≡ Usage → TextIs made a.text → HasNoRun a → IsMade word holds before before fails made a
-usage_made law apart word holds before fails made a none is text alone =
-    let read : IsRead word holds before before made a.problem = subst (λ (m : Answer). IsRead word holds before before m a.problem) (sym is) (none, alone.problem, gives_none before) in
-    record {
-      read = read;
-      not_built = not_built_where law apart word holds before before made a.problem read;
-      library = λ l. absurd (subst IsLibraryFault is l);
-      sound = record { defaults = alone.defaults; run = no_run_ends a made alone; refutes = subst (λ (m : Answer). Refutes m a.problem) (sym is) tt; text = text; first = λ e. absurd (cc (is, e)) };
-    }
+usage_made word holds before fails made a none is text alone = record {
+  read = subst (λ (m : Answer). IsRead word holds before before m a.problem) (sym is) (none, alone.problem, gives_none before);
+  library = λ l. absurd (subst IsLibraryFault is l);
+  sound = record { defaults = alone.defaults; run = no_run_ends a made alone; refutes = subst (λ (m : Answer). Refutes m a.problem) (sym is) tt; text = text; first = λ e. absurd (cc (is, e)) };
+}

@@ -1,34 +1,43 @@
 -- What the top call promises of its answer.
-use Rattle.std.specs.Prelude.{◌≡◌, ◌≢◌, ◌↔◌, ℕ, ◌+◌, ◌⊎◌, ⊤, Bool, true, false, if◌then◌else◌, List, [], ◌∷◌, ◌++◌, length, map, sum_by, Option, None, Some}
+use Rattle.std.specs.Prelude.{◌≡◌, ℕ, ◌+◌, ◌⊎◌, ⊤, Bool, true, false, ◌&&◌, ◌==◌, if◌then◌else◌, List, [], ◌∷◌, ◌++◌, length, map, sum_by, filter_map, Option, None, Some, IsPermutation}
 use Rattle.std.specs.Io.KnownBytes.{Appends}
-use Rattle.std.specs.List.{AllByRecursion}
+use Rattle.std.specs.List.{flat_map}
+use Rattle.std.specs.List.Sorted.{IsStrictlySortedBy}
 use Rattle.std.specs.declared.result.Result.TheVariants.{Ok}
 use Rattle.cd_clause.specs.Truth.{HaveNoModel}
+use Rattle.cd_names.specs.Orders.{name_cmp}
+use Rattle.cd_names.specs.declared.names.Name.{Name}
+use Rattle.cd_names.specs.declared.ownership.Policy.TheVariants.{Round}
 use Rattle.cd_outside.specs.Outside.{AppendsFront, Gives}
 use Rattle.cd_read.specs.declared.problem.Problem.{Problem}
 use Rattle.cd_read.specs.Files.{File, Reads}
-use Rattle.cd_read.specs.Fetched.{Told, Holds, GaveWhole, total, IsReadFault}
+use Rattle.cd_read.specs.Fetched.{Told, Holds, GaveWhole, IsReadFault}
 use Rattle.cd_read.specs.declared.reader.ReadFault.{ReadFault}
 use Rattle.cd_read.specs.declared.reader.ReadFault.TheVariants as failure
 use Rattle.cd_text.specs.declared.line.Line.{Line}
 use Rattle.cd_check.specs.Accepted.{AcceptedText, input_clauses}
-use Rattle.cd_propositional_ledger.specs.declared.Act.TheVariants.{End}
-use Rattle.cd_propositional_ledger.specs.declared.Local.{Local}
-use Rattle.cd_propositional_ledger.specs.declared.Verdict.{Verdict}
-use Rattle.cd_propositional_ledger.specs.declared.Verdict.TheVariants as verdict
-use Rattle.cd_propositional_ledger.specs.Problems.{unbuilt_file}
-use Rattle.cd_propositional_ledger.specs.World.{World, Runs, IsClosed, recorded, journal_of, has_empty, work_count, EndsWith}
-use Rattle.cd_propositional_ledger.specs.declared.Event.{Event}
-use Rattle.cd_propositional_laws.specs.Right.{records_of}
-use Rattle.cd_propositional_laws.specs.Accounts.{AreAccounted}
-use Rattle.cd_propositional_laws.specs.Models.{carried, recorded_clauses, HaveSameModels}
-use Rattle.cd_propositional_build.specs.Derivation.{IsDerivation}
+use Rattle.cd_ledger.specs.declared.events.Act.TheVariants.{End}
+use Rattle.cd_ledger.specs.declared.events.Bound.{Bound}
+use Rattle.cd_ledger.specs.declared.events.Event.{Event}
+use Rattle.cd_ledger.specs.declared.events.Verdict.{Verdict}
+use Rattle.cd_ledger.specs.declared.events.Verdict.TheVariants as verdict
+use Rattle.cd_ledger.specs.declared.local.Local.{Local}
+use Rattle.cd_ledger.specs.declared.records.Known.{Known}
+use Rattle.cd_ledger.specs.declared.records.Record.{Record}
+use Rattle.cd_ledger.specs.Statuses.{is_held}
+use Rattle.cd_machine.specs.Carried.{IsClosed, held_by}
+use Rattle.cd_machine.specs.Rules.{clauses_of}
+use Rattle.cd_machine.specs.World.{Run, World}
+use Rattle.cd_laws.specs.Statements.{ArePeersContracted, AreTasksAccounted, CarriesModels, HaveSameModels}
+use Rattle.cd_peer.specs.Plain.{plain}
+use Rattle.cd_search.specs.Recorded.{AreStarting, ChosenRun, EndsWith, MeetsBound, has_empty, journal_of, recorded, unit_count}
+use Rattle.cd_build.specs.Derivation.{IsDerivation}
 use Rattle.cd_top.specs.declared.answer.Answer.{Answer}
-use Rattle.cd_top.specs.declared.answer.Answer.TheVariants.{Refuted, Saturated, Spent, Usage, Refused, NotBuilt, LibraryFault, SinkFault, Memory}
+use Rattle.cd_top.specs.declared.answer.Answer.TheVariants.{Refuted, Saturated, Spent, Limit, Usage, Refused, LibraryFault, SinkFault, Memory}
 use Rattle.cd_top.specs.declared.answer.Account.{Account}
 use Rattle.cd_report.specs.Pieces.{pieces_of, StopsInLine}
 use Rattle.cd_report.specs.Texts.{usage_text, refused_text, unread_text}
-use Rattle.cd_top.specs.Texts.{refuted_text, saturated_text, spent_text, unbuilt_text}
+use Rattle.cd_top.specs.Texts.{refuted_text, saturated_text, spent_text, limit_text}
 
 -- ---- the exit status
 
@@ -36,9 +45,9 @@ abbrev pub status_of : Answer → ℕ
 status_of (Refuted peer) = 0
 status_of Saturated = 1
 status_of (Spent peer) = 2
+status_of (Limit peer b) = 3
 status_of Usage = 64
 status_of (Refused wrong) = 65
-status_of (NotBuilt file) = 65
 status_of (LibraryFault path) = 66
 status_of Memory = 71
 status_of SinkFault = 74
@@ -46,98 +55,118 @@ status_of SinkFault = 74
 -- ---- words and files
 
 -- the words name a file: from it on, the files that were told are read as this problem, each of them whole where the library tells what it
--- holds; and this is the file for whose sake so far the problem isn't taken, if there is one
-pub record IsProblemRead (word : Option (List ℕ)) (holds : Holds) (before now : Told) (p : Problem) (unbuilt : Option (List ℕ)) : Type 0 where
+-- holds
+pub record IsProblemRead (word : Option (List ℕ)) (holds : Holds) (before now : Told) (p : Problem) : Type 0 where
   pub path : List ℕ
   pub word_is : word ≡ Some path
   pub files : List File
   pub told : GaveWhole holds before now files
   pub reads : Reads files path (Ok p)
-  pub built : unbuilt_file p (total files) ≡ unbuilt
 
 -- and the account has it
 abbrev pub IsProblemTaken : Option (List ℕ) → Holds → Told → Told → Option Problem → Type 0
-IsProblemTaken word holds before now problem = (p : Problem) × (problem ≡ Some p) × IsProblemRead word holds before now p None
+IsProblemTaken word holds before now problem = (p : Problem) × (problem ≡ Some p) × IsProblemRead word holds before now p
 
 -- the words name a file, and from it on there is no problem for this cause
 abbrev pub IsUnread : Option (List ℕ) → Holds → Told → Told → ReadFault → Type 0
 IsUnread word holds before now fault = (path : List ℕ) × (word ≡ Some path) × IsReadFault path holds before now fault
 
 -- what was told of the files, in the order of their fetches, and the problem, are those of the answer: the files have that fault first, or
--- that one is needed next, or they are a problem, which is taken or not. Want of memory is free
+-- that one is needed next, or they are the problem. Want of memory is free
 abbrev pub IsRead : Option (List ℕ) → Holds → Told → Told → Answer → Option Problem → Type 0
 IsRead word holds before now Usage problem = (word ≡ None) × (problem ≡ None) × Gives before now []
 IsRead word holds before now (Refused w) problem = (problem ≡ None) × IsUnread word holds before now (failure.Wrong w)
-IsRead word holds before now (NotBuilt file) problem = (problem ≡ None) × ((p : Problem) × IsProblemRead word holds before now p (Some file))
 IsRead word holds before now (LibraryFault path) problem = (problem ≡ None) × IsUnread word holds before now (failure.Library path)
 IsRead word holds before now Memory problem = problem ≡ None
 IsRead word holds before now SinkFault problem = ⊥
 IsRead word holds before now (Refuted peer) problem = IsProblemTaken word holds before now problem
 IsRead word holds before now Saturated problem = IsProblemTaken word holds before now problem
 IsRead word holds before now (Spent peer) problem = IsProblemTaken word holds before now problem
-
--- where the library tells its files, and they are read as a problem, the answer is that it isn't taken, for the sake of a file, exactly where
--- that file stands in the way. Want of memory is free
-abbrev pub IsNotBuiltWhere : Option (List ℕ) → Told → Told → Answer → Type 0
-IsNotBuiltWhere word before now made =
-    (path : List ℕ) (all files : List File) (p : Problem) (file : List ℕ) → word ≡ Some path → before ≡ Some all → now ≡ Some (all ++ files)
-    → Reads files path (Ok p) → made ≢ Memory → (made ≡ NotBuilt file) ↔ (unbuilt_file p (total files) ≡ Some file)
+IsRead word holds before now (Limit peer b) problem = IsProblemTaken word holds before now problem
 
 abbrev pub IsLibraryFault : Answer → Type 0
 IsLibraryFault (LibraryFault path) = ⊤
 IsLibraryFault (Refuted peer) = ⊥
 IsLibraryFault Saturated = ⊥
 IsLibraryFault (Spent peer) = ⊥
+IsLibraryFault (Limit peer b) = ⊥
 IsLibraryFault Usage = ⊥
 IsLibraryFault (Refused w) = ⊥
-IsLibraryFault (NotBuilt file) = ⊥
 IsLibraryFault SinkFault = ⊥
 IsLibraryFault Memory = ⊥
 
 -- ---- the recorded run
 
--- one peer, which does at most 50,000 tasks
+-- one peer, which rewrites and does tasks at most 50,000 times together
 pub record HasDefaults (account : Account) : Type 0 where
   pub peers : account.peers ≡ 1
+  pub policy : account.policy ≡ Round
   pub limits : account.limits ≡ record { steps = 50000 }
 
--- the account's journals, taken in the account's order, lead from the problem's start to this world, and are used up; the order has an entry
--- for each of their events
-pub record IsRecorded (account : Account) (p : Problem) (w : World) : Type 0 where
-  pub run : Runs p account.limits (recorded account.journals account.order) w
+-- the account's peers at the start of the problem
+abbrev pub IsFirst : Account → Problem → World → Type 0
+IsFirst account p first = AreStarting p account.peers account.policy account.limits first
+
+-- the account's journals, taken in the account's order, lead from the start to this world by events that the peers' order of choices names,
+-- and are used up; the order has an entry for each of their events
+pub record IsRecorded (account : Account) (p : Problem) (first w : World) : Type 0 where
+  pub starts : IsFirst account p first
+  pub run : ChosenRun plain p first (recorded account.journals account.order) w
   pub journals : map journal_of w.locals ≡ account.journals
   pub order : length account.order ≡ sum_by length account.journals
 
 -- what holds of the problem and the world after each front of the recorded run
 abbrev pub AtEachMoment : (Problem → World → Type 0) → Account → Option Problem → Type 0
 AtEachMoment Says account None = ⊤
-AtEachMoment Says account (Some p) = (front rest : List Event) (w : World) → recorded account.journals account.order ≡ front ++ rest → Runs p account.limits front w → Says p w
+AtEachMoment Says account (Some p) =
+    (front rest : List Event) (first w : World) → recorded account.journals account.order ≡ front ++ rest → IsFirst account p first → Run plain p first front w → Says p w
 
--- the carried clauses have exactly the models of the problem's clauses
+-- the carried clauses have exactly the finite models of the problem's clauses
 abbrev pub HasModelsOf : Problem → World → Type 0
-HasModelsOf p w = HaveSameModels (carried w) (input_clauses p.inputs)
+HasModelsOf p w = CarriesModels p w
 
--- every inference between live clauses is owed once, or was done once and each of its conclusions is kept
+-- every inference between live clauses is owed by one peer, or done with each of its conclusions kept, or on its way
 abbrev pub AccountsForAll : Problem → World → Type 0
-AccountsForAll p w = AllByRecursion (AreAccounted p) w.locals
+AccountsForAll p w = AreTasksAccounted plain p w
 
--- the least peer that recorded the empty clause, peers being counted from k, and its state
+-- no known clause is a tautology, and no held one is subsumed or reduced by another held one of smaller key
+abbrev pub IsContracted : Problem → World → Type 0
+IsContracted p w = ArePeersContracted plain w
+
+-- the least peer that knows the empty clause, peers being counted from k, and its state
 abbrev pub least_refuted : ℕ → List Local → Option (ℕ × Local)
 least_refuted k [] = None
 least_refuted k (s ∷ ss) = if has_empty s.known then Some (k, s) else least_refuted (k + 1) ss
+
+abbrev pub bound_of : Option Verdict → Option Bound
+bound_of None = None
+bound_of (Some verdict.Refuted) = None
+bound_of (Some verdict.Saturated) = None
+bound_of (Some verdict.Spent) = None
+bound_of (Some (verdict.Limit b)) = Some b
+
+abbrev pub or_later : ℕ → Option Bound → Option (ℕ × Bound) → Option (ℕ × Bound)
+or_later k None later = later
+or_later k (Some b) later = Some (k, b)
+
+-- the least peer that ended at a bound, and the bound
+abbrev pub least_bound : ℕ → List Local → Option (ℕ × Bound)
+least_bound k [] = None
+least_bound k (s ∷ ss) = or_later k (bound_of s.verdict) (least_bound (k + 1) ss)
 
 abbrev pub is_spent : Option Verdict → Bool
 is_spent None = false
 is_spent (Some verdict.Refuted) = false
 is_spent (Some verdict.Saturated) = false
 is_spent (Some verdict.Spent) = true
+is_spent (Some (verdict.Limit b)) = false
 
--- the least peer that ended at its limit
+-- the least peer that has used its units
 abbrev pub least_spent : ℕ → List Local → Option (ℕ × Local)
 least_spent k [] = None
 least_spent k (s ∷ ss) = if is_spent s.verdict then Some (k, s) else least_spent (k + 1) ss
 
--- the empty clause was recorded, by this peer as the least: its derivation is printed, and the text is accepted
+-- the empty clause is known, to this peer as the least: its derivation is printed, and the text is accepted
 pub record EndsRefuted (account : Account) (p : Problem) (w : World) (peer : ℕ) : Type 0 where
   pub state : Local
   pub least : least_refuted 0 w.locals ≡ Some (peer, state)
@@ -146,40 +175,65 @@ pub record EndsRefuted (account : Account) (p : Problem) (w : World) (peer : ℕ
   pub text : account.text ≡ refuted_text p lines
   pub accepted : AcceptedText p account.text
 
--- no empty clause was recorded, and nothing travels, is pending or is owed: the held clauses are printed, and have exactly the
--- models of the problem's clauses
+-- the record of an entry that its owner holds
+abbrev pub live_record : ℕ → Known → Option Record
+live_record me e = if is_held e && (e.entry.owner == me) then Some e.entry else None
+
+abbrev pub live_records : Local → List Record
+live_records s = filter_map (live_record s.me) s.known
+
+abbrev pub name_of : Record → Name
+name_of r = r.name
+
+-- these are the records of all live names, in the order of names
+pub record AreLive (w : World) (rs : List Record) : Type 0 where
+  pub live : IsPermutation (flat_map live_records w.locals) rs
+  pub ordered : IsStrictlySortedBy name_cmp (map name_of rs)
+
+-- the empty clause is not known, no peer ended at a limit, and nothing travels, waits, is pending or is owed: the live clauses are printed, and
+-- have exactly the finite models of the problem's clauses
 pub record EndsSaturated (account : Account) (p : Problem) (w : World) : Type 0 where
   pub none : least_refuted 0 w.locals ≡ None
+  pub no_bound : least_bound 0 w.locals ≡ None
+  pub unspent : least_spent 0 w.locals ≡ None
   pub closed : IsClosed w
-  pub state : Local
-  pub alone : w.locals ≡ state ∷ []
-  pub text : account.text ≡ saturated_text p account.peers (records_of state)
-  pub models : HaveSameModels (recorded_clauses state) (input_clauses p.inputs)
+  pub records : List Record
+  pub live : AreLive w records
+  pub text : account.text ≡ saturated_text p account.peers records
+  pub models : HaveSameModels (flat_map held_by w.locals) (clauses_of p)
 
--- no empty clause was recorded, and this peer is the least that did as many tasks as it may and ended there
+-- the empty clause is not known, no peer met a bound, and this peer is the least that used all its units and ended there
 pub record EndsSpent (account : Account) (p : Problem) (w : World) (peer : ℕ) : Type 0 where
   pub none : least_refuted 0 w.locals ≡ None
+  pub no_bound : least_bound 0 w.locals ≡ None
   pub state : Local
   pub least : least_spent 0 w.locals ≡ Some (peer, state)
-  pub units : work_count state.journal ≡ account.limits.steps
+  pub units : unit_count state.journal ≡ account.limits.steps
   pub ends : EndsWith state.journal (End verdict.Spent)
   pub text : account.text ≡ spent_text p peer account.limits.steps
 
+-- the empty clause is not known, and this peer is the least that ended at a bound; it had reached it there
+pub record EndsAtBound (account : Account) (p : Problem) (first w : World) (peer : ℕ) (bound : Bound) : Type 0 where
+  pub none : least_refuted 0 w.locals ≡ None
+  pub least : least_bound 0 w.locals ≡ Some (peer, bound)
+  pub meets : MeetsBound plain p first (recorded account.journals account.order) peer bound
+  pub text : account.text ≡ limit_text p peer bound
+
 -- with a problem read, the answer has its cause in the world at the end of the recorded run, and the text is the answer's
-abbrev pub EndsIn : Account → Problem → World → Answer → Type 0
-EndsIn account p w (Refuted peer) = EndsRefuted account p w peer
-EndsIn account p w Saturated = EndsSaturated account p w
-EndsIn account p w (Spent peer) = EndsSpent account p w peer
-EndsIn account p w Usage = ⊥
-EndsIn account p w (Refused wrong) = ⊥
-EndsIn account p w (NotBuilt file) = ⊥
-EndsIn account p w (LibraryFault path) = ⊥
-EndsIn account p w SinkFault = ⊥
-EndsIn account p w Memory = ⊥
+abbrev pub EndsIn : Account → Problem → World → World → Answer → Type 0
+EndsIn account p first w (Refuted peer) = EndsRefuted account p w peer
+EndsIn account p first w Saturated = EndsSaturated account p w
+EndsIn account p first w (Spent peer) = EndsSpent account p w peer
+EndsIn account p first w (Limit peer b) = EndsAtBound account p first w peer b
+EndsIn account p first w Usage = ⊥
+EndsIn account p first w (Refused wrong) = ⊥
+EndsIn account p first w (LibraryFault path) = ⊥
+EndsIn account p first w SinkFault = ⊥
+EndsIn account p first w Memory = ⊥
 
 abbrev pub RunEnds : Account → Answer → Option Problem → Type 0
 RunEnds account made None = (account.journals ≡ []) × (account.order ≡ [])
-RunEnds account made (Some p) = (w : World) × IsRecorded account p w × EndsIn account p w made
+RunEnds account made (Some p) = (first w : World) × IsRecorded account p first w × EndsIn account p first w made
 
 -- after a refutation no finite interpretation satisfies the problem's clauses
 abbrev pub HasNoModel : Option Problem → Type 0
@@ -190,9 +244,9 @@ abbrev pub Refutes : Answer → Option Problem → Type 0
 Refutes (Refuted peer) problem = HasNoModel problem
 Refutes Saturated problem = ⊤
 Refutes (Spent peer) problem = ⊤
+Refutes (Limit peer b) problem = ⊤
 Refutes Usage problem = ⊤
 Refutes (Refused w) problem = ⊤
-Refutes (NotBuilt file) problem = ⊤
 Refutes (LibraryFault path) problem = ⊤
 Refutes SinkFault problem = ⊤
 Refutes Memory problem = ⊤
@@ -203,12 +257,12 @@ Refutes Memory problem = ⊤
 abbrev pub TextIs : Answer → List ℕ → Type 0
 TextIs Usage text = text ≡ usage_text
 TextIs (Refused w) text = text ≡ refused_text w
-TextIs (NotBuilt file) text = text ≡ unbuilt_text file
 TextIs (LibraryFault path) text = text ≡ unread_text path
 TextIs Memory text = text ≡ []
 TextIs (Refuted peer) text = ⊤
 TextIs Saturated text = ⊤
 TextIs (Spent peer) text = ⊤
+TextIs (Limit peer b) text = ⊤
 TextIs SinkFault text = ⊥
 
 -- the sink took the text, or with its fault a front of it
@@ -217,9 +271,9 @@ Taken SinkFault before now text = AppendsFront before now text
 Taken (Refuted peer) before now text = Appends before now text
 Taken Saturated before now text = Appends before now text
 Taken (Spent peer) before now text = Appends before now text
+Taken (Limit peer b) before now text = Appends before now text
 Taken Usage before now text = Appends before now text
 Taken (Refused w) before now text = Appends before now text
-Taken (NotBuilt file) before now text = Appends before now text
 Taken (LibraryFault path) before now text = Appends before now text
 Taken Memory before now text = Appends before now text
 
@@ -230,9 +284,9 @@ TakenByLines SinkFault bytes bytes_now pieces pieces_now text = StopsInLine byte
 TakenByLines (Refuted peer) bytes bytes_now pieces pieces_now text = Gives pieces pieces_now (pieces_of text)
 TakenByLines Saturated bytes bytes_now pieces pieces_now text = Gives pieces pieces_now (pieces_of text)
 TakenByLines (Spent peer) bytes bytes_now pieces pieces_now text = Gives pieces pieces_now (pieces_of text)
+TakenByLines (Limit peer b) bytes bytes_now pieces pieces_now text = Gives pieces pieces_now (pieces_of text)
 TakenByLines Usage bytes bytes_now pieces pieces_now text = Gives pieces pieces_now (pieces_of text)
 TakenByLines (Refused w) bytes bytes_now pieces pieces_now text = Gives pieces pieces_now (pieces_of text)
-TakenByLines (NotBuilt file) bytes bytes_now pieces pieces_now text = Gives pieces pieces_now (pieces_of text)
 TakenByLines (LibraryFault path) bytes bytes_now pieces pieces_now text = Gives pieces pieces_now (pieces_of text)
 TakenByLines Memory bytes bytes_now pieces pieces_now text = Gives pieces pieces_now (pieces_of text)
 

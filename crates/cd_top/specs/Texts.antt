@@ -3,10 +3,12 @@ use Rattle.std.specs.Prelude.{ℕ, List, [], ◌∷◌, ◌++◌, length, codes}
 use Rattle.std.specs.List.{flat_map}
 use Rattle.cd_symbols.specs.Symbol.{Symbol}
 use Rattle.cd_read.specs.declared.problem.Problem.{Problem}
-use Rattle.cd_propositional_ledger.specs.declared.Record.{Record}
+use Rattle.cd_ledger.specs.declared.events.Bound.{Bound}
+use Rattle.cd_ledger.specs.declared.events.Bound.TheVariants.{Bounds, Names}
+use Rattle.cd_ledger.specs.declared.records.Record.{Record}
 use Rattle.cd_text.specs.declared.line.Line.{Line}
 use Rattle.cd_text.specs.Numerals.{numeral}
-use Rattle.cd_text.specs.Texts.{shown, quoted, clause_text, line_text}
+use Rattle.cd_text.specs.Texts.{shown, clause_text, line_text}
 
 -- a line, and its line feed
 abbrev pub with_feed : List ℕ → List ℕ
@@ -30,7 +32,7 @@ unfoldable pub refuted_text : Problem → List Line → List ℕ
 refuted_text p lines =
     with_feed (unsatisfiable_line p.name) ++ (with_feed (start_line p.name) ++ (lines_text p.symbols lines ++ with_feed (end_line p.name)))
 
--- ---- a saturated list: the clauses that are held, by their names
+-- ---- a saturated list: the clauses of the live names, in the order of names
 
 unfoldable pub held_line : List Symbol → Record → List ℕ
 held_line symbols r = codes "cnf(n" ++ (numeral r.name.peer ++ (codes "_" ++ (numeral r.name.seq ++ (codes ",plain," ++ (clause_text symbols r.clause ++ codes ").")))))
@@ -51,6 +53,13 @@ spent_line peer units = codes "% aquarius spent, peer " ++ (numeral peer ++ (cod
 unfoldable pub spent_text : Problem → ℕ → ℕ → List ℕ
 spent_text p peer units = with_feed (codes "% SZS status ResourceOut for " ++ shown p.name) ++ with_feed (spent_line peer units)
 
--- so far not every problem is taken
-unfoldable pub unbuilt_text : List ℕ → List ℕ
-unbuilt_text file = codes "% aquarius refused, not built, file " ++ (quoted file ++ codes ", byte 0\n")
+-- which bound it is: that of clauses and substitutions, or that of a peer's names
+abbrev pub bound_word : Bound → List ℕ
+bound_word Bounds = codes "bounds"
+bound_word Names = codes "names"
+
+unfoldable pub limit_line : ℕ → Bound → List ℕ
+limit_line peer bound = codes "% aquarius limit, peer " ++ (numeral peer ++ (codes ", " ++ bound_word bound))
+
+unfoldable pub limit_text : Problem → ℕ → Bound → List ℕ
+limit_text p peer bound = with_feed (codes "% SZS status ResourceOut for " ++ shown p.name) ++ with_feed (limit_line peer bound)

@@ -1,29 +1,28 @@
 //! What the top call answers.
 ghost use Rattle.std.specs.Prelude.{◌≡◌};
 
+use cd_ledger::{Bound, Journals, Limits};
 use cd_list::{Copied, Sequence, Text};
+use cd_names::Policy;
 use cd_outside::Bytes;
-use cd_propositional_ledger::{Journals, Limits};
 use cd_read::{Problem, Wrong};
 use std::alloc::{AllocError, Global};
 
 /// How a call ended.
 #[derive(Drop)]
 pub enum Answer {
-    /// A peer recorded the empty clause: the problem has no model. `peer` is the least such peer.
+    /// A peer came to know the empty clause: the problem has no model. `peer` is the least such peer.
     Refuted { peer: u16 },
     /// Nothing is left to be done.
     Saturated,
-    /// A peer did as many tasks as it may; `peer` is the least such peer.
+    /// A peer made as many rewritings and tasks as it may; `peer` is the least such peer.
     Spent { peer: u16 },
+    /// A peer met a bound that no option moves; `peer` is the least such peer.
+    Limit { peer: u16, bound: Bound },
     /// The words aren't one path.
     Usage,
     /// A file isn't as it should be.
     Refused(Wrong),
-    /// So far the peers don't take the problem that was read. `file` has the first input with anything but
-    /// predicates without arguments; where there is none, it is the first file, and there are more than 4,096
-    /// inputs, or more than 65,536 bytes over all files.
-    NotBuilt { file: Text },
     /// The library failed at the file with this path.
     LibraryFault { path: Text },
     /// The sink failed: it took a front of the text.
@@ -43,9 +42,9 @@ impl Answer {
             Answer::Refuted { .. } => 0,
             Answer::Saturated => 1,
             Answer::Spent { .. } => 2,
+            Answer::Limit { .. } => 3,
             Answer::Usage => 64,
             Answer::Refused(_) => 65,
-            Answer::NotBuilt { .. } => 65,
             Answer::LibraryFault { .. } => 66,
             Answer::Memory => 71,
             Answer::SinkFault => 74,
@@ -59,12 +58,12 @@ impl Copied for Answer {
             Answer::Refuted { peer } => Ok(Answer::Refuted { peer: *peer }),
             Answer::Saturated => Ok(Answer::Saturated),
             Answer::Spent { peer } => Ok(Answer::Spent { peer: *peer }),
+            Answer::Limit { peer, bound } => Ok(Answer::Limit {
+                peer: *peer,
+                bound: *bound,
+            }),
             Answer::Usage => Ok(Answer::Usage),
             Answer::Refused(wrong) => Ok(Answer::Refused(wrong.copy(alloc)?)),
-            Answer::NotBuilt { file } => {
-                let file = file.copy(alloc)?;
-                Ok(Answer::NotBuilt { file })
-            }
             Answer::LibraryFault { path } => {
                 let path = path.copy(alloc)?;
                 Ok(Answer::LibraryFault { path })
@@ -84,6 +83,7 @@ pub type Turns = Sequence<u16>;
 pub struct Account {
     pub problem: Option<Problem>,
     pub peers: u16,
+    pub policy: Policy,
     pub limits: Limits,
     pub journals: Journals,
     pub order: Turns,

@@ -1,20 +1,19 @@
 //! The call that the program makes.
-ghost use Rattle.std.specs.Prelude.{◌≡◌, ◌≤◌, ◌*◌, ℕ, List, [], Option, None, Some, length, IfOk};
+ghost use Rattle.std.specs.Prelude.{◌≡◌, ℕ, List, [], Option, None, Some, IfOk};
 ghost use Rattle.std.specs.Option.{option_copied};
 ghost use Rattle.cd_outside.specs.Outside.{Rose};
 ghost use Rattle.cd_read.specs.Formed.{IsFormed, IsBounded};
-ghost use Rattle.cd_top.specs.Ends.{IsUnreadAnswer, HasNoRun, IsBuiltOutcome, IsMade};
+ghost use Rattle.cd_top.specs.Ends.{IsUnreadAnswer, HasNoRun, IsSolved, IsMade};
 ghost use Rattle.cd_top.specs.Words.{file_word, begins_with_hyphen};
-ghost use Rattle.cd_top.specs.Headline.{status_of, IsRead, IsNotBuiltWhere, IsLibraryFault, HasDefaults, RunEnds, AtEachMoment, HasModelsOf, AccountsForAll, Refutes, TextIs, Taken, TakenByLines, IsAnswerTo};
+ghost use Rattle.cd_top.specs.Headline.{status_of, IsRead, IsLibraryFault, HasDefaults, RunEnds, AtEachMoment, HasModelsOf, AccountsForAll, IsContracted, Refutes, TextIs, Taken, TakenByLines, IsAnswerTo};
 
 use crate::answer::{Account, Answer, ProveOutcome};
 use crate::solving::{STEPS, solve};
-use crate::texts::unbuilt_text;
+use cd_ledger::Limits;
 use cd_list::{Copied, Sequence, Text};
+use cd_names::Policy;
 use cd_outside::{Bytes, Gate, Library, Sink};
-use cd_propositional_ledger::{Limits, taken_problems_are_formed, unbuilt_file};
-use cd_read::laws::one_answer;
-use cd_read::{Problem, ReadFault, read_counted};
+use cd_read::{Problem, ReadFault, read_problem};
 use cd_report::{refused_text, send, unread_text, usage_text};
 use std::alloc::{AllocError, Global};
 use std::sync::Wait;
@@ -34,15 +33,15 @@ pub fn prove<R: Threads + Wait + Sync, L: Library, K: Sink, G: Gate + Sync>(
 ) -> ProveOutcome
     // The words name a file: it and the files that it includes spell the problem, or have this fault first.
     ensures read { IsRead (file_word words.now) (L.holds library.old) (L.told library.old) (L.told library.new) result.made result.account.problem }
-    ensures not_built { IsNotBuiltWhere (file_word words.now) (L.told library.old) (L.told library.new) result.made }
     ensures library_fault { IsLibraryFault result.made → Rose (L.faults library.old) (L.faults library.new) }
 
-    // The recorded run is one peer's. It ends where the answer says, it keeps the models of the problem and
-    // accounts for each inference, and a refutation is one.
+    // The recorded run is one peer's, each event the one that the order of choices names. It ends where the answer says, it
+    // keeps the models of the problem, accounts for each inference, and holds nothing superfluous; and a refutation is one.
     ensures defaults { HasDefaults result.account }
     ensures run { RunEnds result.account result.made result.account.problem }
     ensures models { AtEachMoment HasModelsOf result.account result.account.problem }
     ensures accounted { AtEachMoment AccountsForAll result.account result.account.problem }
+    ensures contracted { AtEachMoment IsContracted result.account result.account.problem }
     ensures refutes { Refutes result.made result.account.problem }
 
     // The text, and what the sink took of it: each line in one piece.
@@ -100,6 +99,7 @@ fn without_run(alloc: Global, text: Bytes) -> Account
     Account {
         problem: None,
         peers: 1,
+        policy: Policy::Round,
         limits: Limits { steps: STEPS },
         journals: Sequence::new(alloc),
         order: Sequence::new(alloc),
@@ -130,7 +130,6 @@ fn make<L: Library>(
 ) -> Result<(Answer, Account), AllocError>
     ensures { IfOk result (λ r. IsMade (file_word words.now) (L.holds library.old) (L.told library.old) (L.told library.new) (Rose (L.faults library.old) (L.faults library.new)) r.0 r.1) }
 {
-    one_answer();
     match file_word(words) {
         None => usage(alloc),
         Some(path) => from_file(alloc, library, path),
@@ -156,10 +155,9 @@ fn from_file<L: Library>(
     ensures { IfOk result (λ r. (word : Option (List ℕ)) → word ≡ Some path.now
         → IsMade word (L.holds library.old) (L.told library.old) (L.told library.new) (Rose (L.faults library.old) (L.faults library.new)) r.0 r.1) }
 {
-    one_answer();
-    match read_counted(alloc, library, path) {
+    match read_problem(alloc, library, path) {
         Err(fault) => unread(alloc, fault),
-        Ok(counted) => answered(alloc, counted.0, counted.1),
+        Ok(problem) => solved(alloc, problem),
     }
 }
 
@@ -182,29 +180,13 @@ fn unread(alloc: Global, fault: ReadFault) -> Result<(Answer, Account), AllocErr
     }
 }
 
-// The answer where so far a problem isn't taken, for the sake of this file.
-fn unbuilt(alloc: Global, file: &Text) -> Result<(Answer, Account), AllocError>
-    ensures answer { IfOk result (λ r. r.0 ≡ Answer.NotBuilt file.now) }
-    ensures text { IfOk result (λ r. TextIs r.0 r.1.text) }
-    ensures alone { IfOk result (λ r. HasNoRun r.1) }
-{
-    let text = unbuilt_text(alloc, file)?;
-    let file = file.copy(alloc)?;
-    Ok((Answer::NotBuilt { file }, without_run(alloc, text)))
-}
-
-// The answer to a problem that was read from so many bytes.
-fn answered(alloc: Global, problem: Problem, bytes: u64) -> Result<(Answer, Account), AllocError>
+// The answer to a problem.
+fn solved(alloc: Global, problem: Problem) -> Result<(Answer, Account), AllocError>
     requires formed { IsFormed problem }
     requires bounded { IsBounded problem }
-    requires symbols { 2 * length problem.symbols ≤ bytes }
-    ensures { IfOk result (λ r. IsBuiltOutcome problem bytes r.0 r.1) }
+    ensures { IfOk result (λ r. IsSolved problem r.0 r.1) }
 {
-    taken_problems_are_formed();
-    match unbuilt_file(&problem, bytes) {
-        Some(file) => unbuilt(alloc, file),
-        None => solve(alloc, problem),
-    }
+    solve(alloc, problem)
 }
 
 fn begins_with_hyphen(word: &[u8]) -> bool

@@ -1,29 +1,19 @@
 //! The text of each answer.
-ghost use Rattle.std.specs.Prelude.{◌≡◌, ◌++◌, [], ◌∷◌, map, IfOk, OnOk};
+ghost use Rattle.std.specs.Prelude.{◌≡◌, ◌++◌, [], ◌∷◌, filter_map, length, IfOk, OnOk};
 ghost use Rattle.std.specs.List.{flat_map};
+ghost use Rattle.std.specs.Option.{option_copied};
 ghost use Rattle.cd_text.specs.Texts.{shown};
-ghost use Rattle.cd_propositional_laws.specs.Right.{record_of};
-ghost use Rattle.cd_top.specs.Texts.{with_feed, lines_text, refuted_text, held_line, counts_line, saturated_text, spent_line, spent_text, unbuilt_text};
+ghost use Rattle.cd_top.specs.Headline.{live_record};
+ghost use Rattle.cd_top.specs.Texts.{with_feed, lines_text, refuted_text, held_line, counts_line, saturated_text, spent_line, spent_text, bound_word, limit_line, limit_text};
 
-use cd_list::{Sequence, Text};
+use cd_acts::state::holds;
+use cd_ledger::{Bound, Known, Record};
+use cd_list::Sequence;
 use cd_outside::Bytes;
-use cd_propositional_ledger::{Known, Record};
 use cd_read::Problem;
 use cd_symbols::Symbols;
-use cd_text::{Line, clause_text, line_text, put_number, put_quoted, put_shown};
+use cd_text::{Line, clause_text, line_text, put_number, put_shown};
 use std::alloc::{AllocError, Global};
-
-/// `% aquarius refused, not built, file 'FILE', byte 0`
-#[tactic(auto, using(std::proofs::Common::append_assoc), unfolding(crate::specs::Texts::unbuilt_text))]
-pub fn unbuilt_text(alloc: Global, file: &Text) -> Result<Bytes, AllocError>
-    ensures { IfOk result (λ text. text ≡ unbuilt_text file.now) }
-{
-    let mut text = Sequence::new(alloc);
-    text.extend(b"% aquarius refused, not built, file ")?;
-    put_quoted(&mut text, file.as_bytes())?;
-    text.extend(b", byte 0\n")?;
-    Ok(text)
-}
 
 /// The lines of a derivation between the lines that say what they are.
 #[tactic(auto, using(std::proofs::Common::append_assoc), unfolding(crate::specs::Texts::refuted_text))]
@@ -61,22 +51,47 @@ fn put_lines(into: &mut Bytes, symbols: &Symbols, lines: &[Line]) -> Result<(), 
     Ok(())
 }
 
-/// The clauses that are held, by their names.
+/// The clauses that peer `me` owns and holds, by their names in the order in which they became known.
 #[tactic(auto, using(std::proofs::Common::append_assoc), unfolding(crate::specs::Texts::saturated_text))]
 pub fn saturated_text(
     alloc: Global,
     problem: &Problem,
+    me: u16,
     known: &[Known],
 ) -> Result<Bytes, AllocError>
-    ensures { IfOk result (λ text. text ≡ saturated_text problem.now 1 (map record_of known.now)) }
+    ensures { IfOk result (λ text. text ≡ saturated_text problem.now 1 (filter_map (live_record me) known.now)) }
 {
+    let live = live_count(me, known);
     let mut text = Sequence::new(alloc);
     put_named(&mut text, b"% SZS status GaveUp for ", problem)?;
-    put_counts(&mut text, 1, known.len() as u64)?;
+    put_counts(&mut text, 1, live)?;
     text.extend(b"% aquarius list start\n")?;
-    put_held(&mut text, &problem.symbols, known)?;
+    put_held(&mut text, &problem.symbols, me, known)?;
     text.extend(b"% aquarius list end\n")?;
     Ok(text)
+}
+
+// The record, where its owner holds it.
+fn live_record(me: u16, known: &Known) -> Option<&Record>
+    ensures { option_copied result ≡ live_record me known.now }
+{
+    if holds(&known.status) && known.entry.owner == me {
+        Some(&known.entry)
+    } else {
+        None
+    }
+}
+
+fn live_count(me: u16, known: &[Known]) -> u64
+    ensures { result ≡ length (filter_map (live_record me) known.now) }
+{
+    let mut count = 0u64;
+    for e in known {
+        if live_record(me, e).is_some() {
+            count += 1;
+        }
+    }
+    count
 }
 
 #[tactic(auto, using(std::proofs::Common::append_assoc), unfolding(crate::specs::Texts::counts_line))]
@@ -91,12 +106,14 @@ fn put_counts(into: &mut Bytes, peers: u64, clauses: u64) -> Result<(), AllocErr
 }
 
 #[tactic(auto, using(std::proofs::Common::append_assoc))]
-fn put_held(into: &mut Bytes, symbols: &Symbols, known: &[Known]) -> Result<(), AllocError>
-    ensures { OnOk result (into.new ≡ into.old ++ flat_map (λ r. with_feed (held_line symbols.now r)) (map record_of known.now)) }
+fn put_held(into: &mut Bytes, symbols: &Symbols, me: u16, known: &[Known]) -> Result<(), AllocError>
+    ensures { OnOk result (into.new ≡ into.old ++ flat_map (λ r. with_feed (held_line symbols.now r)) (filter_map (live_record me) known.now)) }
 {
     let mut rest = known;
     while let [first, after @ ..] = rest {
-        put_record(into, symbols, &first.entry)?;
+        if let Some(record_) = live_record(me, first) {
+            put_record(into, symbols, record_)?;
+        }
         rest = after;
     }
     Ok(())
@@ -115,7 +132,7 @@ fn put_record(into: &mut Bytes, symbols: &Symbols, record_: &Record) -> Result<(
     into.extend(b").\n")
 }
 
-/// That the peer did as many tasks as it may.
+/// That the peer made as many rewritings and tasks as it may.
 #[tactic(auto, using(std::proofs::Common::append_assoc), unfolding(crate::specs::Texts::spent_text))]
 pub fn spent_text(
     alloc: Global,
@@ -140,4 +157,40 @@ fn put_spent(into: &mut Bytes, peer: u64, units: u64) -> Result<(), AllocError>
     into.extend(b", units ")?;
     put_number(into, units)?;
     into.extend(b"\n")
+}
+
+/// That the peer met a bound.
+#[tactic(auto, using(std::proofs::Common::append_assoc), unfolding(crate::specs::Texts::limit_text))]
+pub fn limit_text(
+    alloc: Global,
+    problem: &Problem,
+    peer: u16,
+    bound: Bound,
+) -> Result<Bytes, AllocError>
+    ensures { IfOk result (λ text. text ≡ limit_text problem.now peer bound) }
+{
+    let mut text = Sequence::new(alloc);
+    put_named(&mut text, b"% SZS status ResourceOut for ", problem)?;
+    put_limit(&mut text, u64::from(peer), bound)?;
+    Ok(text)
+}
+
+#[tactic(auto, using(std::proofs::Common::append_assoc), unfolding(crate::specs::Texts::limit_line))]
+fn put_limit(into: &mut Bytes, peer: u64, bound: Bound) -> Result<(), AllocError>
+    ensures { OnOk result (into.new ≡ into.old ++ with_feed (limit_line peer bound)) }
+{
+    into.extend(b"% aquarius limit, peer ")?;
+    put_number(into, peer)?;
+    into.extend(b", ")?;
+    put_bound(into, bound)?;
+    into.extend(b"\n")
+}
+
+fn put_bound(into: &mut Bytes, bound: Bound) -> Result<(), AllocError>
+    ensures { OnOk result (into.new ≡ into.old ++ bound_word bound) }
+{
+    match bound {
+        Bound::Bounds => into.extend(b"bounds"),
+        Bound::Names => into.extend(b"names"),
+    }
 }

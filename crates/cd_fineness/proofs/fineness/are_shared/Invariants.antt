@@ -1,4 +1,4 @@
-use Rattle.std.proofs.Common.{◌≡◌, not, drop}
+use Rattle.std.proofs.Common.{◌≡◌, drop}
 use Rattle.std.specs.List.{list_all}
 use Rattle.cd_fineness.specs.Fine.{shares}
 use Rattle.cd_fineness.proofs.fineness.are_shared.Given as goal

@@ -3,7 +3,6 @@ use Rattle.std.specs.Prelude.{None}
 use Rattle.cd_acts.specs.View.{local_of}
 use Rattle.cd_clause.specs.Clauses.{clause_size}
 use Rattle.cd_ledger.specs.Records.{cites_of, recorded}
-use Rattle.cd_ledger.specs.declared.records.Known.{Known}
 use Rattle.cd_machine.specs.Right.{Lead}
 use Rattle.cd_steps.specs.declared.Step.{Step}
 use Rattle.cd_fineness.proofs.Fine.{fine_is, small_size}

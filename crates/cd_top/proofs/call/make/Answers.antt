@@ -7,7 +7,7 @@ use Rattle.cd_top.proofs.call.make.Goals as goal
 pub returns-in-None : goal.returns-in-None
 returns-in-None g c =
     if_ok3 c.usage.result (λ r is text alone.
-    usage_made c.one_answer.ensures.readings c.one_answer.ensures.apart (file_word c.args.words.now) (g.L.Library.holds c.args.library.now) (g.L.Library.told c.args.library.now)
+    usage_made (file_word c.args.words.now) (g.L.Library.holds c.args.library.now) (g.L.Library.told c.args.library.now)
     (Rose (g.L.Library.faults c.args.library.now) (g.L.Library.faults c.args.library.now)) r.0 r.1 (sym c.in-None.ensures) is text alone)
     c.usage.ensures.answer c.usage.ensures.text c.usage.ensures.alone
 

@@ -1,4 +1,4 @@
-use Rattle.cd_top.proofs.Ending.{keeps_models, accounts_for_all}
+use Rattle.cd_top.proofs.Ending.{keeps_models, accounts_for_all, is_contracted}
 use Rattle.cd_top.proofs.call.prove.Goals as goal
 
 pub returns-clause-models : goal.returns-clause-models
@@ -10,8 +10,8 @@ returns-clause-accounted g c = accounts_for_all c.in-Ok.account c.in-Ok.account.
 pub returns-clause-read : goal.returns-clause-read
 returns-clause-read g c = c.in-Ok.ensures.read
 
-pub returns-clause-not_built : goal.returns-clause-not_built
-returns-clause-not_built g c = c.in-Ok.ensures.not_built
+pub returns-clause-contracted : goal.returns-clause-contracted
+returns-clause-contracted g c = is_contracted c.in-Ok.account c.in-Ok.account.problem
 
 pub returns-clause-library_fault : goal.returns-clause-library_fault
 returns-clause-library_fault g c = c.in-Ok.ensures.library

@@ -1,0 +1,9 @@
+pub mod Formed
+pub mod Low
+pub mod Placed
+pub mod Lining
+pub mod Refuting
+pub mod Marking
+pub mod Numbering
+pub mod Adding
+pub mod Building

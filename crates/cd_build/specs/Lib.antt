@@ -1,0 +1,4 @@
+pub mod Derivation
+pub mod Refuting
+pub mod Marks
+pub mod Building

@@ -1,0 +1,28 @@
+use Rattle.std.proofs.Common.{subst}
+use Rattle.cd_acts.specs.Answers.{IsStanding}
+use Rattle.cd_acts.specs.declared.rules.Standing.{Standing}
+use Rattle.cd_peer.proofs.Firsts.{reduced_named}
+use Rattle.cd_peer.proofs.choosing.choose_free.Goals as goal
+
+pub choose_rewriting-requires-clause-rewriter : goal.choose_rewriting-requires-clause-rewriter
+choose_rewriting-requires-clause-rewriter c =
+    reduced_named c.args.order.now c.args.state.now.known c.args.item.now c.in-Reduced.by c.requires.sensible.once c.requires.free
+    (subst (λ (s : Standing). IsStanding c.args.order.now c.args.item.now.clause c.args.state.now.known s) c.in-Reduced.is (c.in_ok-standing.ensures c.args.state.now.known c.requires.indexed.held))
+
+pub choose_keep-requires-clause-subsumer : goal.choose_keep-requires-clause-subsumer
+choose_keep-requires-clause-subsumer c =
+    (subst (λ (s : Standing). IsStanding c.args.order.now c.args.item.now.clause c.args.state.now.known s) c.in-Subsumed.is (c.in_ok-standing.ensures c.args.state.now.known c.requires.indexed.held)).1
+
+pub choose_keep-requires-in-Free-clause-subsumer : goal.choose_keep-requires-in-Free-clause-subsumer
+choose_keep-requires-in-Free-clause-subsumer c =
+    (subst (λ (s : Standing). IsStanding c.args.order.now c.args.item.now.clause c.args.state.now.known s) c.in-Free.is (c.in_ok-standing.ensures c.args.state.now.known c.requires.indexed.held)).1
+
+pub returns-in-Subsumed : goal.returns-in-Subsumed
+returns-in-Subsumed c = λ p.
+    c.choose_keep.ensures c.args.order.now p
+    (subst (λ (s : Standing). IsStanding c.args.order.now c.args.item.now.clause c.args.state.now.known s) c.in-Subsumed.is (c.in_ok-standing.ensures c.args.state.now.known c.requires.indexed.held)).0
+
+pub returns-in-Free : goal.returns-in-Free
+returns-in-Free c = λ p.
+    c.choose_keep-in-Free.ensures c.args.order.now p
+    (subst (λ (s : Standing). IsStanding c.args.order.now c.args.item.now.clause c.args.state.now.known s) c.in-Free.is (c.in_ok-standing.ensures c.args.state.now.known c.requires.indexed.held)).0

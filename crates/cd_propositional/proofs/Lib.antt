@@ -1,3 +1,0 @@
-pub mod EligibleLemmas
-pub mod Giving
-pub mod Resolving

@@ -1,2 +1,0 @@
-pub mod Eligible
-pub mod Conclusions

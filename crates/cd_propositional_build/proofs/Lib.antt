@@ -1,9 +1,0 @@
-pub mod Standing
-pub mod Choosing
-pub mod Tracing
-pub mod Adding
-pub mod LineForms
-pub mod Numbering
-pub mod Refuting
-pub mod Marking
-pub mod Counting

@@ -1,5 +1,0 @@
-use Rattle.cd_propositional_build.proofs.Refuting.{derivations_refute}
-use Rattle.cd_propositional_build.proofs.laws.derivations_refute.Goals as goal
-
-pub returns : goal.returns
-returns c = derivations_refute

@@ -1,3 +1,0 @@
-pub mod Derivation
-pub mod Marks
-pub mod Refuting

@@ -1,5 +1,0 @@
-pub mod Premises
-pub mod Right
-pub mod Formed
-pub mod Models
-pub mod Accounts

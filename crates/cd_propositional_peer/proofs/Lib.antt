@@ -1,4 +1,0 @@
-pub mod NamesLemmas
-pub mod TurnLemmas
-pub mod ReadyLemmas
-pub mod RunLemmas

@@ -1,0 +1,4 @@
+pub mod Acts
+pub mod Advancing
+pub mod Runs
+pub mod Steps

@@ -1,0 +1,10 @@
+% A ring in which x * x = x holds is commutative.
+cnf(zero,axiom,( add(zero,X) = X )).
+cnf(negative,axiom,( add(negative(X),X) = zero )).
+cnf(add_associative,axiom,( add(add(X,Y),Z) = add(X,add(Y,Z)) )).
+cnf(add_commutative,axiom,( add(X,Y) = add(Y,X) )).
+cnf(multiply_associative,axiom,( multiply(multiply(X,Y),Z) = multiply(X,multiply(Y,Z)) )).
+cnf(left_distributive,axiom,( multiply(X,add(Y,Z)) = add(multiply(X,Y),multiply(X,Z)) )).
+cnf(right_distributive,axiom,( multiply(add(X,Y),Z) = add(multiply(X,Z),multiply(Y,Z)) )).
+cnf(idempotent,hypothesis,( multiply(X,X) = X )).
+cnf(commutativity,negated_conjecture,( multiply(a,b) != multiply(b,a) )).
