@@ -71,7 +71,7 @@ fn expect_input(rt: &impl Abort, input: &Input, row: &Row<'_>) {
     assert_eq!(rt; label.0, row.label.0);
     assert_eq!(rt; label.1, row.label.1);
     assert_eq!(rt; role_word(input.role), row.role);
-    assert_eq!(rt; input.file.as_str(), row.file);
+    assert_eq!(rt; input.file.text().as_str(), row.file);
     assert_eq!(rt; input.clause.literals.len(), row.signs.len());
     for (literal, sign) in input.clause.literals.as_slice().iter().zip(row.signs) {
         assert!(rt; literal.positive == *sign);

@@ -74,7 +74,7 @@ fn input_source(alloc: Global, input: Option<&Input>) -> Result<LineSource, Allo
 {
     match input {
         Some(input) => Ok(LineSource::File {
-            path: input.file.copy(alloc)?,
+            path: input.file.text().copy(alloc)?,
             label: input.label.copy(alloc)?,
         }),
         None => Ok(LineSource::File {

@@ -87,7 +87,7 @@ fn add_body(
         symbols,
         input.role,
         &input.clause,
-        &input.file,
+        input.file.text(),
         &input.label,
         &mut printed,
     )?;

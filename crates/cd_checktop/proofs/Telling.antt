@@ -1,5 +1,5 @@
 -- What was told in two calls.
-use Rattle.std.proofs.Common.{◌≡◌, ◌≢◌, ℕ, ◌+◌, ◌-◌, ◌<◌, ◌≤◌, List, [], ◌∷◌, ◌++◌, length, take, min, refl, sym, ap, ◌∙◌, subst, append_assoc, append-nil, Option, Some, None, ◌⊎◌, inl, inr, arith, Ok}
+use Rattle.std.proofs.Common.{◌≡◌, ◌≢◌, ℕ, ◌<◌, ◌≤◌, List, [], ◌∷◌, ◌++◌, length, min, refl, sym, ap, ◌∙◌, subst, append-nil, Option, Some, None, inl, inr, arith}
 use Rattle.std.proofs.lemmas.List.{length-take, take_all}
 use Rattle.std.proofs.lemmas.List.Sums.{sum_by-cons}
 use Rattle.cd_outside.specs.Outside.{Gives, Rose, Fetches, AppendsFirst}
@@ -9,12 +9,11 @@ use Rattle.cd_read.specs.declared.problem.Problem.{Problem as ProblemValue}
 use Rattle.cd_read.specs.declared.reader.ReadFault.{ReadFault}
 use Rattle.cd_read.specs.declared.reader.ReadFault.TheVariants as faults
 use Rattle.cd_read.specs.Files.{File}
-use Rattle.cd_read.specs.Fetched.{Told, Holds, GaveWhole, IsReadFrom, IsReadFault, IsOfLibrary, FetchesAtMost, IsWholeFile, total}
-use Rattle.cd_check.specs.declared.verdict.Verdict.TheVariants as verdict
+use Rattle.cd_read.specs.Fetched.{Told, Holds, GaveWhole, IsReadFrom, IsReadFault, IsOfLibrary, FetchesAtMost, IsWholeFile}
 use Rattle.cd_check.proofs.Refuting.{accepted_texts_refute}
 use Rattle.cd_checktop.specs.declared.answer.CheckAnswer.{CheckAnswer}
 use Rattle.cd_checktop.specs.declared.answer.CheckAnswer.TheVariants.{Accepted, Refused, Usage, Problem, LibraryFault, SinkFault, Memory}
-use Rattle.cd_checktop.specs.Checked.{IsFetched, IsJudged, IsLong, IsPastCap, IsUnread, IsTold, IsTextAnswer, IsDerived, IsAnswerOf, IsLibraryFault, IsChecked, FetchesFew}
+use Rattle.cd_checktop.specs.Checked.{IsFetched, IsPastCap, IsTold, IsTextAnswer, IsDerived, IsAnswerOf, IsLibraryFault, IsChecked, FetchesFew}
 
 text_checked : (holds : Holds) (words : Option (List ℕ × List ℕ)) (derivation text : List ℕ) (before mid now : Told) (p : ProblemValue) (made : CheckAnswer) (f : IsFetched holds words before now p text) → f.derivation ≡ derivation
     → IsTold (holds f.derivation) mid now f.derivation text → IsTextAnswer p derivation text made → IsChecked holds words before now made

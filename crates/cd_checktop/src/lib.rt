@@ -3,6 +3,7 @@
 
 mod answer;
 mod call;
+pub mod laws;
 mod texts;
 
 pub use answer::{CheckAnswer, CheckOutcome};

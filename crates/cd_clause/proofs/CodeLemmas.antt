@@ -1,6 +1,6 @@
 -- Codes tell literals apart.
 use Rattle.std.proofs.Common.{◌≡◌, ◌⊎◌, inl, inr, ◌∙◌, ◌++◌, ◌∷◌, [], ℕ, Bool, true, false, List, IsTrue, ◌↔◌, ◌||◌, if◌then◌else◌, map, nat_eq, refl, sym, ap, ap₂, subst, append_assoc, Result, Ok, Err, OnOk, ◌+◌, ◌<◌, ◌≤◌, length, get_or, take, drop}
-use Rattle.std.specs.List.{flat_map, concat, list_any}
+use Rattle.std.specs.List.{flat_map, concat}
 use Rattle.std.specs.Cmp.Lexicographic.{pointwise, bytes_decides}
 use Rattle.std.proofs.lemmas.Bool.{false≢true}
 use Rattle.std.proofs.lemmas.List.{drop_more, drop_all}
@@ -15,7 +15,7 @@ use Rattle.cd_term.proofs.TermInduction.{ind, Each}
 use Rattle.cd_clause.specs.declared.Atom.{Atom}
 use Rattle.cd_clause.specs.declared.Atom.TheVariants.{Truth, Pred, Equal}
 use Rattle.cd_clause.specs.declared.Literal.{Literal}
-use Rattle.cd_clause.specs.Clauses.{exchanged, IsAbsurd, IsSameAtom, IsSameLiteral, IsSuperfluous}
+use Rattle.cd_clause.specs.Clauses.{exchanged, IsAbsurd, IsSameLiteral, IsSuperfluous}
 use Rattle.cd_clause.proofs.KeptLemmas.{next_earlier}
 use Rattle.cd_clause.specs.Codes.{code_step, term_code, atom_code, sign_code, literal_code, is_met, AreMet}
 

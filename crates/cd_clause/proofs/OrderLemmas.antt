@@ -1,11 +1,11 @@
 -- Variables that are noted in a set, and their places there.
-use Rattle.std.proofs.Common.{◌≡◌, ◌∙◌, ℕ, suc, ◌+◌, ◌<◌, ◌≤◌, ◌||◌, Bool, true, false, not, cond, if◌then◌else◌, List, [], ◌∷◌, ◌++◌, Option, Some, None, length, nat_eq, nat_lt, refl, sym, ap, ap₂, subst, arith}
+use Rattle.std.proofs.Common.{◌≡◌, ◌∙◌, ℕ, suc, ◌+◌, ◌≤◌, ◌||◌, Bool, true, false, not, cond, if◌then◌else◌, List, [], ◌∷◌, ◌++◌, Some, None, length, nat_eq, nat_lt, refl, sym, ap, ap₂, arith}
 use Rattle.std.specs.List.{list_any, position, position_or_len}
 use Rattle.std.proofs.lemmas.Bool.Decides.{nat_tests}
 use Rattle.indexmap.specs.IndexSet.{insert_key}
 use Rattle.cd_term.specs.declared.Term.{Term}
 use Rattle.cd_term.specs.declared.Term.TheVariants.{Var}
-use Rattle.cd_term.specs.Terms.{variables_of, firsts_after, rank, ranked, substituted}
+use Rattle.cd_term.specs.Terms.{variables_of, firsts_after, rank}
 use Rattle.cd_term.proofs.Equations.{variables_of-Var}
 use Rattle.cd_term.proofs.Ranks.{rank_le}
 

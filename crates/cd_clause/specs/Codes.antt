@@ -10,7 +10,6 @@ use Rattle.cd_term.specs.declared.Term.TheOpen as layer
 use Rattle.cd_clause.specs.declared.Atom.{Atom}
 use Rattle.cd_clause.specs.declared.Atom.TheVariants.{Truth, Pred, Equal}
 use Rattle.cd_clause.specs.declared.Literal.{Literal}
-use Rattle.cd_clause.specs.Clauses.{exchanged}
 
 -- 0 and a variable; or 1, a symbol, the codes of its arguments, and 2
 abbrev pub code_step : Term-F (List ℕ) → List ℕ

@@ -1,6 +1,6 @@
 -- What the test of a tidy form compares.
 -- Beyond the headline: no clause of `prove` reaches this file.
-use Rattle.std.specs.Prelude.{ℕ, ◌≡◌, ◌≤◌, List, [], take, slice_get, Option, Some, option_map}
+use Rattle.std.specs.Prelude.{ℕ, ◌≡◌, ◌≤◌, ◌↔◌, Bool, IsTrue, List, [], take, slice_get, Option, Some, option_map}
 use Rattle.std.specs.List.{flat_map}
 use Rattle.cd_term.specs.Terms.{variables_of, renamed_by, marked, first_from}
 use Rattle.cd_clause.specs.declared.Literal.{Literal}
@@ -13,6 +13,10 @@ IsLeftOut ls i = (l : Literal) × (slice_get ls i ≡ Some l) × IsSuperfluous (
 -- no literal from a place on is superfluous
 abbrev pub IsClearFrom : ℕ → List Literal → Type 0
 IsClearFrom clear ls = (i : ℕ) → clear ≤ i → ¬ IsLeftOut ls i
+
+-- marks tell of the first literals whether they are superfluous
+abbrev pub AreMarks : List Bool → List Literal → Type 0
+AreMarks marks ls = (i : ℕ) (b : Bool) → slice_get marks i ≡ Some b → (IsTrue b ↔ IsLeftOut ls i)
 
 -- what is left of a list of literals has the shapes of another list, and variable k stands there exactly
 -- where variable n stands in the other

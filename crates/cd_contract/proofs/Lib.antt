@@ -6,3 +6,9 @@ pub mod Counting
 pub mod Refusing
 pub mod Hitting
 pub mod Naming
+pub mod Shaping
+pub mod Marking
+pub mod Meeting
+pub mod Needing
+pub mod Columns
+pub mod Skipping

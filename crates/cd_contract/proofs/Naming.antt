@@ -83,6 +83,9 @@ entries_removed [] (suc i) = refl
 entries_removed (k ∷ ks) zero = refl
 entries_removed (k ∷ ks) (suc i) = ap (λ es. k.entry ∷ es) (entries_removed ks i)
 
+pub place_within : (n : Name) (ks xs : List Kept) (i : ℕ) → xs ≡ ks → IsPlaceOf n (entries_of xs) i → i < length ks
+place_within n ks xs i same p = omega (arith, slice_get_within (entries_of xs) i p.entry p.there, entries_length xs, ap length same)
+
 pub removed_entry : (n : Name) (ks xs : List Kept) (es : List Entry) (i : ℕ) (k : Kept) → entries_of ks ≡ es → xs ≡ ks → IsPlaceOf n (entries_of xs) i →
     k ≡ get_or ks i k → Some k.entry ≡ find (is_named n) es
 removed_entry n ks xs es i k view same p at =

@@ -1,5 +1,5 @@
 -- What is refused by counts alone.
-use Rattle.std.proofs.Common.{◌≡◌, ◌≤◌, ℕ, zero, suc, Bool, true, false, IsTrue, ◌↔◌, [], ◌∷◌, sum_by, map, Option, Some, None, subst, sym, refl, ◌∙◌}
+use Rattle.std.proofs.Common.{◌≡◌, ◌≤◌, ℕ, Bool, true, false, IsTrue, ◌↔◌, [], ◌∷◌, sum_by, map, Option, Some, None, subst, sym, ◌∙◌}
 use Rattle.cd_term.specs.declared.Term.{Term}
 use Rattle.cd_term.specs.Terms.{greatest}
 use Rattle.cd_clause.specs.declared.Atom.TheVariants.{Equal}

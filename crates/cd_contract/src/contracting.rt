@@ -1,18 +1,23 @@
 //! Forward and backward contraction.
 //!
-//! Most held clauses are passed over by their counts, and most others by the shapes of their terms. Keys are compared
-//! last, only where a clause subsumes or reduces another.
+//! Most held clauses are passed over by a look into a table of shapes, and most others by their counts. Keys are
+//! compared last, only where a clause subsumes or reduces another.
 #![tactic(auto)]
 
-ghost use Rattle.std.specs.Prelude.{◌≡◌, ◌≤◌, ◌↔◌, ◌∷◌, [], Some, None, List, IsTrue, IfOk};
+ghost use Rattle.std.specs.Prelude.{◌≡◌, ◌≤◌, ◌<◌, ◌↔◌, ◌∷◌, [], Some, None, List, IsTrue, IfOk, length, slice_index_or};
 ghost use Rattle.std.specs.Option.{option_copied};
 ghost use Rattle.cd_clause.specs.Clauses.{IsWithinBounds};
 ghost use Rattle.cd_contract.specs.declared.held.Entry.{Entry};
 ghost use Rattle.cd_contract.specs.Hits.{Contracting, IsFirstOf, IsForward, IsWay, IsStruckBy, AreStruck, Contracts, IsReducer};
 ghost use Rattle.cd_contract.specs.Rows.{IsRow, IsKept, AreKept, entries_of};
+ghost use Rattle.cd_contract.specs.Marks.{Marked, IsSought};
+ghost use Rattle.cd_contract.specs.Needs.{AreInStep, HasNeeds};
 
 use crate::held::{Entry, Held, Hit, Hits, Kept, Struck};
+use crate::marks::Marks;
+use crate::needs::Needs;
 use crate::rows::Row;
+use crate::seeking::marks_of;
 use cd_clause::Clause;
 use cd_kbo::Order;
 use cd_key::key_cmp;
@@ -79,22 +84,38 @@ fn is_contracting(
     Ok(compared.is_lt())
 }
 
+/// The entry in a place with its counts.
+fn kept_at(held: &[Kept], i: usize) -> &Kept
+    requires { i < length held.now }
+    ensures { result.now ≡ slice_index_or held.entry.now i result.now }
+{
+    &held[i]
+}
+
 /// The first held clause of smaller key that makes a clause superfluous in a way.
 fn first_contracting<'a>(
     alloc: Global,
     how: How,
     held: &'a [Kept],
+    needs: &[Needs],
     c: &Clause,
     name: Option<Name>,
     sought: &Row,
+    marks: &Marks,
     order: &Order,
 ) -> Result<Option<&'a Entry>, AllocError>
     requires clause { IsWithinBounds c.now }
     requires sought { IsRow c.now sought.now }
+    requires marks { IsSought c.now.literals (Marked marks.now) }
     requires kept { AreKept held.now }
+    requires needs { AreInStep HasNeeds (entries_of held.now) needs.now }
     ensures { IfOk result (λ o. IsFirstOf (Contracting order.now how c.now name) (entries_of held.entry.now) (option_copied o)) }
 {
-    for kept in held {
+    for (i, need) in needs.iter().enumerate() {
+        if !need.may_contract(how, marks) {
+            continue;
+        }
+        let kept = kept_at(held, i);
         if is_contracting(alloc, how, c, name, sought, kept, order)? {
             return Ok(Some(&kept.entry));
         }
@@ -115,14 +136,38 @@ pub fn forward(
     ensures { IfOk result (IsForward order.now c.now name held.now) }
 {
     let kept = held.kept();
+    let needs = held.needs();
     let sought = Row::of(c);
-    if let Some(e) = first_contracting(alloc, How::Subsumes, kept, c, name, &sought, order)? {
+    let marks = marks_of(c);
+    let found = first_contracting(
+        alloc,
+        How::Subsumes,
+        kept,
+        needs,
+        c,
+        name,
+        &sought,
+        &marks,
+        order,
+    )?;
+    if let Some(e) = found {
         return Ok(Some(Hit {
             by: e.name,
             how: How::Subsumes,
         }));
     }
-    if let Some(e) = first_contracting(alloc, How::Reduces, kept, c, name, &sought, order)? {
+    let found = first_contracting(
+        alloc,
+        How::Reduces,
+        kept,
+        needs,
+        c,
+        name,
+        &sought,
+        &marks,
+        order,
+    )?;
+    if let Some(e) = found {
         return Ok(Some(Hit {
             by: e.name,
             how: How::Reduces,
@@ -143,7 +188,18 @@ pub fn reducer(
     ensures { IfOk result (λ o. IsReducer order.now c.now name held.now o) }
 {
     let sought = Row::of(c);
-    let found = first_contracting(alloc, How::Reduces, held.kept(), c, name, &sought, order)?;
+    let marks = marks_of(c);
+    let found = first_contracting(
+        alloc,
+        How::Reduces,
+        held.kept(),
+        held.needs(),
+        c,
+        name,
+        &sought,
+        &marks,
+        order,
+    )?;
     let Some(e) = found else {
         return Ok(None);
     };
@@ -210,8 +266,14 @@ pub fn backward(
     ensures { IfOk result (AreStruck order.now d.now name held.now) }
 {
     let row = Row::of(d);
+    let needs = Needs::of(d);
+    let all = held.kept();
     let mut hits = Hits::new(alloc);
-    for kept in held.kept() {
+    for (i, marks) in held.marks().iter().enumerate() {
+        if !needs.may_strike(marks) {
+            continue;
+        }
+        let kept = kept_at(all, i);
         let Some(how) = strikes(alloc, d, name, &row, kept, order)? else {
             continue;
         };

@@ -8,8 +8,12 @@ ghost use Rattle.cd_clause.specs.Clauses.{IsWithinBounds};
 ghost use Rattle.cd_contract.specs.declared.held.Entry.{Entry};
 ghost use Rattle.cd_contract.specs.Held.{is_named, without, NoneNamed, IsPlaceOf};
 ghost use Rattle.cd_contract.specs.Rows.{AreKept, entries_of};
+ghost use Rattle.cd_contract.specs.Needs.{AreInStep, HasNeeds, HasMarks};
 
+use crate::marks::Brief;
+use crate::needs::Needs;
 use crate::rows::Row;
+use crate::seeking::marks_of;
 use cd_clause::Clause;
 use cd_list::{Copied, Sequence};
 use cd_names::{How, Name};
@@ -32,10 +36,14 @@ pub struct Kept {
 
 /// The clauses that are held, each within bounds, in the order of arrival. A contract sees the list of entries.
 ///
-/// Beside each clause stand counts of its symbols, by which most are passed over in a search without a look at them.
+/// Beside each clause stand the shapes that it needs in what it makes superfluous, and marks of its own shapes, each in
+/// a column of its own: few bytes of a clause are looked at in a search, and few clauses besides. Of these most are
+/// passed over by the counts of their symbols.
 #[derive(Debug, Drop)]
 pub struct Held {
     kept: Vec<Kept>,
+    needs: Vec<Needs>,
+    marks: Vec<Brief>,
 }
 
 impl Model for Held {
@@ -49,11 +57,12 @@ impl Model for Held {
 
     ghost coded = { Prim.hlevel (codes, term.the_row.coded) };
 
-    ghost use Rattle.cd_contract.specs.Rows.{AreKept, entries_of};
+    ghost use Rattle.cd_contract.specs.Rows.{entries_of};
+    ghost use Rattle.cd_contract.specs.Needs.{AreColumns};
 
     ghost view = { λ it. entries_of it.kept.items };
 
-    ghost invariant = { λ it. AreKept it.kept.items };
+    ghost invariant = { λ it. AreColumns it.kept.items it.needs.items it.marks.items };
 }
 
 /// What makes a clause superfluous, and how.
@@ -91,6 +100,8 @@ impl Held {
     {
         Held {
             kept: Vec::new(alloc),
+            needs: Vec::new(alloc),
+            marks: Vec::new(alloc),
         }
     }
 
@@ -127,11 +138,17 @@ impl Held {
         ensures err { OnErr result (self.new ≡ self.old) }
     {
         let row = Row::of(clause);
+        let needs = Needs::of(clause);
+        let marks = marks_of(clause).brief();
         let clause = clause.copy(alloc)?;
+        self.needs.reserve(1)?;
+        self.marks.reserve(1)?;
         self.kept.push(Kept {
             entry: Entry { name, clause },
             row,
         })?;
+        self.needs.push(needs)?;
+        self.marks.push(marks)?;
         Ok(())
     }
 
@@ -144,6 +161,8 @@ impl Held {
             return None;
         };
         let kept = self.kept.remove(place);
+        self.needs.remove(place);
+        self.marks.remove(place);
         Some(kept.entry)
     }
 
@@ -153,5 +172,19 @@ impl Held {
         ensures kept { AreKept result.now }
     {
         self.kept.as_slice()
+    }
+
+    /// The shapes that each of the entries needs.
+    pub fn needs(&self) -> &[Needs]
+        ensures { AreInStep HasNeeds self.now result.now }
+    {
+        self.needs.as_slice()
+    }
+
+    /// The marks of each of the entries.
+    pub fn marks(&self) -> &[Brief]
+        ensures { AreInStep HasMarks self.now result.now }
+    {
+        self.marks.as_slice()
     }
 }

@@ -4,7 +4,11 @@
 mod contracting;
 mod held;
 pub mod laws;
+mod marks;
+mod needs;
 mod rows;
+mod seeking;
+mod shapes;
 mod tally;
 
 pub use contracting::{backward, forward, reducer};

@@ -12,3 +12,4 @@ pub mod Apart
 pub mod RunLemmas
 pub mod Choosing
 pub mod Existing
+mod ClashLemmas

@@ -108,24 +108,8 @@ literal_small ls i l all there =
 other_way : (o : Order) (a b side other : Term) → side ≡ a → other ≡ b → Greater o other side → Greater o b a
 other_way o a b side other p q gr = subst (λ (t : Term). Greater o t a) q (subst (λ (t : Term). Greater o other t) p gr)
 
-same_pair : (a b c d : Term) → Equal a b ≡ Equal c d → (a ≡ c) × (b ≡ d)
+pub same_pair : (a b c d : Term) → Equal a b ≡ Equal c d → (a ≡ c) × (b ≡ d)
 same_pair a b c d e = (cc, cc)
-
-enters_not : (o : Order) (a : Atom) (z : ℕ) (side other : Term) (path : List ℕ) → HasSides z a side other → Greater o other side → EntersAtom o a (z ∷ path) → ⊥
-enters_not o a zero side other path is gr e =
-    let f = subst (λ (b : Atom). EntersAtom o b (zero ∷ path)) is e in
-    let both = same_pair side other f.0 f.1 f.2 in
-    f.3 (other_way o f.0 f.1 side other both.0 both.1 gr)
-enters_not o a (suc zero) side other path is gr e =
-    let f = subst (λ (b : Atom). EntersAtom o b (suc zero ∷ path)) is e in
-    let both = same_pair other side f.1 f.0 f.2 in
-    f.3 (other_way o f.0 f.1 side other both.1 both.0 gr)
-enters_not o a (suc (suc z)) side other path is gr e = absurd is
-
-pub side_not_entered : (o : Order) (c : Clause) (j z : ℕ) (side other : Term) (path : List ℕ) → HasSideAt c j z side other → Greater o other side → Enters o c j (z ∷ path) → ⊥
-side_not_entered o c j z side other path h gr e =
-    let same : e.literal ≡ h.literal = same_Some e.literal h.literal (sym e.there ∙ h.there) in
-    enters_not o h.literal.atom z side other path h.sides gr (subst (λ (l : Literal). EntersAtom o l.atom (z ∷ path)) same e.enters)
 
 enters_side : (o : Order) (a : Atom) (z : ℕ) (side other : Term) (path : List ℕ) → HasSides z a side other → (Greater o other side → ⊥) → EntersAtom o a (z ∷ path)
 enters_side o a zero side other path is ng = subst (λ (b : Atom). EntersAtom o b (zero ∷ path)) (sym is) (side, other, refl, ng)
@@ -143,6 +127,21 @@ pub predicate_entered : (o : Order) (c : Clause) (j : ℕ) (l : Literal) (p : �
 predicate_entered o c j l p args path there is =
     record { literal = l; there = there; enters = subst (λ (a : Atom). EntersAtom o a path) (sym is) tt }
 
+lesser_of_side : (o : Order) (a : Atom) (z : ℕ) (side other : Term) (path : List ℕ) → HasSides z a side other → EntersAtom o a (z ∷ path) →
+    (t : Term) × (u : Term) × HasSides z a t u × (Greater o u t → ⊥)
+lesser_of_side o a zero side other path is e =
+    let f = subst (λ (b : Atom). EntersAtom o b (zero ∷ path)) is e in (f.0, f.1, is ∙ f.2, f.3)
+lesser_of_side o a (suc zero) side other path is e =
+    let f = subst (λ (b : Atom). EntersAtom o b (suc zero ∷ path)) is e in (f.0, f.1, is ∙ f.2, f.3)
+lesser_of_side o a (suc (suc z)) side other path is e = absurd is
+
+-- a side that is entered isn't the lesser one
+pub entered_not_lesser : (o : Order) (c : Clause) (j z : ℕ) (side other : Term) (path : List ℕ) → HasSideAt c j z side other → Enters o c j (z ∷ path) → IsNotLesser o c j z
+entered_not_lesser o c j z side other path h e =
+    let same : e.literal ≡ h.literal = same_Some e.literal h.literal (sym e.there ∙ h.there) in
+    let f = lesser_of_side o h.literal.atom z side other path h.sides (subst (λ (l : Literal). EntersAtom o l.atom (z ∷ path)) same e.enters) in
+    record { literal = h.literal; side = f.0; other = f.1; there = h.there; sides = f.2; order = f.3 }
+
 -- ---- the test of a side
 
 sides_apart : (o : Order) (s : ℕ) (a : Atom) (side other t u : Term) → HasSides s a side other → HasSides s a t u → Greater o other side → (Greater o u t → ⊥) → ⊥
@@ -150,7 +149,7 @@ sides_apart o zero a side other t u h k gr ng = let both = same_pair side other 
 sides_apart o (suc zero) a side other t u h k gr ng = let both = same_pair other side u t (sym h ∙ k) in ng (other_way o t u side other both.1 both.0 gr)
 sides_apart o (suc (suc s)) a side other t u h k gr ng = absurd h
 
-no_lesser : (o : Order) (c : Clause) (i s : ℕ) (l : Literal) (side other : Term) → slice_get c.literals i ≡ Some l → HasSides s l.atom side other → Greater o other side → IsNotLesser o c i s → ⊥
+pub no_lesser : (o : Order) (c : Clause) (i s : ℕ) (l : Literal) (side other : Term) → slice_get c.literals i ≡ Some l → HasSides s l.atom side other → Greater o other side → IsNotLesser o c i s → ⊥
 no_lesser o c i s l side other there sides gr n =
     let same : n.literal ≡ l = same_Some n.literal l (sym n.there ∙ there) in
     sides_apart o s l.atom side other n.side n.other sides (subst (λ (k : Literal). HasSides s k.atom n.side n.other) same n.sides) gr n.order

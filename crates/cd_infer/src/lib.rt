@@ -9,6 +9,7 @@
 
 ghost use Rattle.std.specs.Prelude.{◌↔◌, IsTrue};
 ghost use Rattle.cd_infer.specs.Conclusions.{IsUsable, SoloAnswers, PairAnswers};
+ghost use Rattle.cd_infer.specs.Marks.{AreMarks};
 
 mod clashing;
 mod concluding;
@@ -28,6 +29,8 @@ use cd_steps::Step;
 use cd_term::TermFault;
 use equations::conclude_alone;
 use factoring::One;
+use marks::Marks;
+pub use marks::{Mark, marks_of};
 use pairing::conclude_both;
 use resolving::Two;
 use std::alloc::Global;
@@ -77,6 +80,38 @@ pub fn pair(
     requires second { IsUsable b.now }
     ensures { PairAnswers order.now a_name a.now b_name b.now result }
 {
+    let first = marks_of(alloc, a, order)?;
+    let second = marks_of(alloc, b, order)?;
+    pair_marked(
+        alloc,
+        a_name,
+        a,
+        first.as_slice(),
+        b_name,
+        b,
+        second.as_slice(),
+        order,
+    )
+}
+
+/// The same of two clauses whose marks are known: [`marks_of`] finds those of a clause once for all others that it
+/// meets.
+pub fn pair_marked(
+    alloc: Global,
+    a_name: Name,
+    a: &Clause,
+    a_marks: &[Mark],
+    b_name: Name,
+    b: &Clause,
+    b_marks: &[Mark],
+    order: &Order,
+) -> Result<Conclusions, TermFault>
+    requires first { IsUsable a.now }
+    requires second { IsUsable b.now }
+    requires first_marks { AreMarks order.now a.now a_marks.now }
+    requires second_marks { AreMarks order.now b.now b_marks.now }
+    ensures { PairAnswers order.now a_name a.now b_name b.now result }
+{
     let two = Two {
         a_name,
         a,
@@ -84,5 +119,9 @@ pub fn pair(
         b,
         order,
     };
-    conclude_both(alloc, &two)
+    let marks = Marks {
+        first: a_marks,
+        second: b_marks,
+    };
+    conclude_both(alloc, &two, &marks)
 }

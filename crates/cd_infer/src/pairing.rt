@@ -2,6 +2,7 @@
 #![tactic(auto)]
 
 ghost use Rattle.std.specs.Prelude.{◌≡◌, ◌<◌, ◌≤◌, ◌↔◌, [], ◌∷◌, length, IsTrue};
+ghost use Rattle.cd_term.specs.declared.Term.{Term};
 ghost use Rattle.cd_key.specs.Literals.{AreComparable, IsEligible};
 ghost use Rattle.cd_infer.specs.Listed.{Gathers};
 ghost use Rattle.cd_infer.specs.Marks.{AreMarked};
@@ -9,7 +10,7 @@ ghost use Rattle.cd_infer.specs.Paths.{walked, paths_from};
 ghost use Rattle.cd_infer.specs.Conclusions.{PairGives, PairCan, IsWithin, IsGiving, IsPairable, IsNotLesser, HasSideAt, PairAnswers, para, paras_into, paras_of_side, paras_from, para_places};
 
 use crate::Conclusions;
-use crate::marks::{Marks, eligible, marks_of};
+use crate::marks::{Marks, eligible, is_used};
 use crate::paramodulating::{Places, walk};
 use crate::resolving::{Two, resolve_all};
 use cd_clause::{Atom, Clause, sides_of};
@@ -38,17 +39,18 @@ pub fn is_not_lesser(c: &Clause, i: usize, s: u8, order: &Order) -> bool
 fn para_into_side(
     alloc: Global,
     two: &Two,
+    marks: &Marks,
     places: Places,
     z: u8,
     side: &Term,
-    other: &Term,
     found: &mut Conclusions,
 ) -> Result<(), TermFault>
     requires giving { IsGiving two.now.order.now two.now.a.now two.now.b.now places.i places.s places.j }
-    requires stands { HasSideAt two.now.b.now places.j z side.now other.now }
+    requires stands { (other : Term) × HasSideAt two.now.b.now places.j z side.now other }
+    requires marks { AreMarked two.now.order.now two.now.a.now two.now.b.now marks.now }
     ensures { Gathers (PairGives two.now.order.now two.now.a_name two.now.a.now two.now.b_name two.now.b.now) (PairCan two.now.order.now two.now.a.now two.now.b.now) IsWithin (walked (para places.i places.s places.j) [] (paths_from z (side.now ∷ []))) found.old found.new result }
 {
-    if greater(other, side, two.order) {
+    if !is_used(two.b, places.j, z, two.order, marks.second) {
         return Ok(());
     }
     let mut path = Sequence::new(alloc);
@@ -67,10 +69,12 @@ fn para_into_side(
 fn para_into(
     alloc: Global,
     two: &Two,
+    marks: &Marks,
     places: Places,
     found: &mut Conclusions,
 ) -> Result<(), TermFault>
-    requires { IsGiving two.now.order.now two.now.a.now two.now.b.now places.i places.s places.j }
+    requires giving { IsGiving two.now.order.now two.now.a.now two.now.b.now places.i places.s places.j }
+    requires marks { AreMarked two.now.order.now two.now.a.now two.now.b.now marks.now }
     ensures { Gathers (PairGives two.now.order.now two.now.a_name two.now.a.now two.now.b_name two.now.b.now) (PairCan two.now.order.now two.now.a.now two.now.b.now) IsWithin (paras_into two.now.b.now places.i places.s places.j) found.old found.new result }
 {
     let Some(taker) = two.b.literals.get(places.j) else {
@@ -83,10 +87,10 @@ fn para_into(
             walk(alloc, two, places, args.as_slice(), 0, &mut path, found)
         }
         Atom::Equal(left, right) => {
-            if let Err(fault) = para_into_side(alloc, two, places, 0, left, right, found) {
+            if let Err(fault) = para_into_side(alloc, two, marks, places, 0, left, found) {
                 return Err(fault);
             }
-            para_into_side(alloc, two, places, 1, right, left, found)
+            para_into_side(alloc, two, marks, places, 1, right, found)
         }
     }
 }
@@ -108,10 +112,10 @@ fn para_from_side(
     ensures { Gathers (PairGives two.now.order.now two.now.a_name two.now.a.now two.now.b_name two.now.b.now) (PairCan two.now.order.now two.now.a.now two.now.b.now) IsWithin (paras_of_side two.now.b.now i s) found.old found.new result }
 {
     for j in 0..two.b.literals.len() {
-        if !eligible(two.b, j as u16, two.order, marks.second) {
+        if !eligible(two.b, j, two.order, marks.second) {
             continue;
         }
-        if let Err(fault) = para_into(alloc, two, Places { i, s, j }, found) {
+        if let Err(fault) = para_into(alloc, two, marks, Places { i, s, j }, found) {
             return Err(fault);
         }
     }
@@ -129,11 +133,12 @@ fn para_of_side(
 ) -> Result<(), TermFault>
     requires pairable { IsPairable two.now.a.now two.now.b.now }
     requires place { i < length two.now.a.now.literals }
+    requires small { s < 2 }
     requires giver { IsEligible two.now.order.now two.now.a.now i }
     requires marks { AreMarked two.now.order.now two.now.a.now two.now.b.now marks.now }
     ensures { Gathers (PairGives two.now.order.now two.now.a_name two.now.a.now two.now.b_name two.now.b.now) (PairCan two.now.order.now two.now.a.now two.now.b.now) IsWithin (paras_of_side two.now.b.now i s) found.old found.new result }
 {
-    if !is_not_lesser(two.a, i, s, two.order) {
+    if !is_used(two.a, i, s, two.order, marks.first) {
         return Ok(());
     }
     para_from_side(alloc, two, marks, i, s, found)
@@ -152,7 +157,7 @@ fn para_from(
     requires marks { AreMarked two.now.order.now two.now.a.now two.now.b.now marks.now }
     ensures { Gathers (PairGives two.now.order.now two.now.a_name two.now.a.now two.now.b_name two.now.b.now) (PairCan two.now.order.now two.now.a.now two.now.b.now) IsWithin (paras_from two.now.b.now i) found.old found.new result }
 {
-    if !eligible(two.a, i as u16, two.order, marks.first) {
+    if !eligible(two.a, i, two.order, marks.first) {
         return Ok(());
     }
     if let Err(fault) = para_of_side(alloc, two, marks, i, 0, found) {
@@ -181,21 +186,16 @@ fn para_all(
 }
 
 /// All conclusions of two clauses, in their order.
-pub fn conclude_both(alloc: Global, two: &Two) -> Result<Conclusions, TermFault>
-    requires { IsPairable two.now.a.now two.now.b.now }
+pub fn conclude_both(alloc: Global, two: &Two, marks: &Marks) -> Result<Conclusions, TermFault>
+    requires pairable { IsPairable two.now.a.now two.now.b.now }
+    requires marks { AreMarked two.now.order.now two.now.a.now two.now.b.now marks.now }
     ensures { PairAnswers two.now.order.now two.now.a_name two.now.a.now two.now.b_name two.now.b.now result }
 {
     let mut found = Sequence::new(alloc);
-    let first = marks_of(alloc, two.a, two.order)?;
-    let second = marks_of(alloc, two.b, two.order)?;
-    let marks = Marks {
-        first: first.as_slice(),
-        second: second.as_slice(),
-    };
-    if let Err(fault) = resolve_all(alloc, two, &marks, &mut found) {
+    if let Err(fault) = resolve_all(alloc, two, marks, &mut found) {
         return Err(fault);
     }
-    if let Err(fault) = para_all(alloc, two, &marks, &mut found) {
+    if let Err(fault) = para_all(alloc, two, marks, &mut found) {
         return Err(fault);
     }
     Ok(found)

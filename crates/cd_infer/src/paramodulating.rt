@@ -1,16 +1,19 @@
 //! Paramodulation: a walk through the subterms of each literal, in the order of their paths.
 #![tactic(auto)]
 
-ghost use Rattle.std.specs.Prelude.{◌≡◌, ◌<◌, ◌≤◌, ◌+◌, ◌∷◌, ◌++◌, [], ℕ, List, length, sum_by, take, IfOk, OnOk};
+ghost use Rattle.std.specs.Prelude.{◌≡◌, ◌<◌, ◌≤◌, ◌+◌, ◌∷◌, ◌++◌, [], ℕ, List, length, sum_by, take, IfOk, OnOk, IsTrue};
 ghost use Rattle.cd_term.specs.Terms.{size_of};
 ghost use Rattle.cd_steps.specs.declared.Step.TheVariants.{Para};
+ghost use Rattle.cd_steps.specs.Rules.{IsParamodulation};
 ghost use Rattle.cd_infer.specs.Listed.{Gathers};
 ghost use Rattle.cd_infer.specs.Paths.{walked, paths_from};
-ghost use Rattle.cd_infer.specs.Conclusions.{PairGives, PairCan, IsWithin, IsGiving, Enters, para};
+ghost use Rattle.cd_infer.specs.Conclusions.{PairGives, PairCan, IsWithin, IsGiving, Enters, CanConclude, para};
 
+use crate::clashing::clash;
 use crate::concluding::conclude;
 use crate::resolving::Two;
 use crate::{Conclusion, Conclusions};
+use cd_clause::{at_atom, sides_of};
 use cd_list::Sequence;
 use cd_steps::Step;
 use cd_steps::rules::paramodulation;
@@ -58,6 +61,26 @@ fn para_step(
     })
 }
 
+/// Whether the side of the first clause and the subterm at a path have different symbols somewhere, so that nothing
+/// makes them equal.
+fn clashes_at(two: &Two, places: Places, steps: &[u16]) -> bool
+    ensures { IsTrue result → CanConclude (IsParamodulation two.now.a.now places.i places.s two.now.b.now places.j steps.now) → ⊥ }
+{
+    let Some(giver) = two.a.literals.get(places.i) else {
+        return false;
+    };
+    let Some((side, _)) = sides_of(&giver.atom, places.s) else {
+        return false;
+    };
+    let Some(taker) = two.b.literals.get(places.j) else {
+        return false;
+    };
+    let Some(inner) = at_atom(&taker.atom, steps) else {
+        return false;
+    };
+    clash(side, inner)
+}
+
 /// Paramodulation into the subterm at a path.
 fn para_at(
     alloc: Global,
@@ -70,6 +93,9 @@ fn para_at(
     requires enters { Enters two.now.order.now two.now.b.now places.j steps.now }
     ensures { Gathers (PairGives two.now.order.now two.now.a_name two.now.a.now two.now.b_name two.now.b.now) (PairCan two.now.order.now two.now.a.now two.now.b.now) IsWithin (para places.i places.s places.j steps.now ∷ []) found.old found.new result }
 {
+    if clashes_at(two, places, steps) {
+        return Ok(());
+    }
     let Some(draft) = paramodulation(two.a, places.i, places.s, two.b, places.j, steps) else {
         return Ok(());
     };

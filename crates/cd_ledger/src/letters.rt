@@ -50,3 +50,10 @@ impl Copied for Letter {
         })
     }
 }
+
+fn moves<T: Send>(_value: &T) {}
+
+// Letters may move between threads.
+fn cross(letter: &Letter) {
+    moves(letter);
+}

@@ -2,6 +2,7 @@ pub mod Grammar
 pub mod Statements
 pub mod Parts
 pub mod Laws
+pub mod Words
 pub mod Trees
 pub mod Steps
 pub mod Stages

@@ -14,6 +14,7 @@ mod statement;
 mod terminal;
 mod terminals;
 mod tree;
+mod word;
 
 pub use label::{Label, Labels, Role, What};
 pub use machine::{Frame, Held, Mode, StepFault};
@@ -21,4 +22,5 @@ pub use part::{Found, PartFault, Progress, read_part};
 pub use stack::Stack;
 pub use statement::{Stage, Statement};
 pub use terminal::{Foreign, Sign, Terminal};
-pub use tree::{Tree, TreeAtom, TreeLiteral, TreeLiterals, Trees};
+pub use tree::{Side, Tree, TreeAtom, TreeLiteral, TreeLiterals, Trees};
+pub use word::Word;

@@ -1,5 +1,5 @@
 //! The machine that reads a formula, one token at a time.
-ghost use Rattle.std.specs.Prelude.{true, ◌≡◌, ◌++◌, ◌∷◌, ◌+◌, ◌≤◌, length, Ok, Some, None, OnOk, OnSome, []};
+ghost use Rattle.std.specs.Prelude.{true, ◌≡◌, ◌++◌, ◌∷◌, ◌+◌, ◌≤◌, length, Ok, Some, None, IfOk, OnOk, OnSome, []};
 ghost use Rattle.cd_parse.specs.Steps.{fault, with_atom, right_side, step, after_step, literal_step, negated_step, term_step, word_step, var_step, app_step, in_frame, opened, arguments, foreign_fault};
 ghost use Rattle.cd_parse.specs.Grammar.{literal};
 ghost use Rattle.cd_parse.specs.Bare.{bare};
@@ -8,7 +8,8 @@ ghost use Rattle.cd_parse.specs.Code.{Turns, HasRoom, state_of};
 use crate::label::What;
 use crate::stack::Stack;
 use crate::terminal::{Foreign, Sign, Terminal};
-use crate::tree::{Tree, TreeAtom, TreeLiteral, TreeLiterals, Trees};
+use crate::tree::{Side, Tree, TreeAtom, TreeLiteral, TreeLiterals, Trees};
+use crate::word::Word;
 use cd_list::Text;
 use std::alloc::{AllocError, Global};
 
@@ -21,14 +22,14 @@ pub enum Mode {
     WantTerm,
     AfterWord(Text),
     AfterVar(Text),
-    AfterApp(Text, Trees),
+    AfterApp(Word, Trees),
     AfterLiteral,
 }
 
 /// An open list of arguments: its word, and the arguments so far.
 #[derive(Drop)]
 pub struct Frame {
-    pub word: Text,
+    pub word: Word,
     pub done: Trees,
 }
 
@@ -237,11 +238,25 @@ fn want_term(held: &Held, token: Terminal) -> Result<Option<Mode>, StepFault>
     }
 }
 
+/// The arguments with one more. There is room for one at first, and then for twice as many whenever it is full.
+fn with_term(args: Trees, term: Tree) -> Result<Trees, AllocError>
+    ensures { IfOk result (λ more. more ≡ args ++ term ∷ []) }
+{
+    let mut items = args.into_vec();
+    let count = items.len();
+    if count == items.capacity() {
+        items.reserve_exact(if count == 0 { 1 } else { count })?;
+    }
+    let mut more = Trees::from_vec(items);
+    more.push(term)?;
+    Ok(more)
+}
+
 /// Behind a term in a list of arguments.
 fn in_frame(
     held: &mut Held,
     term: Tree,
-    mut frame: Frame,
+    frame: Frame,
     token: &Terminal,
 ) -> Result<Option<Mode>, StepFault>
     requires room { held.old.room + (length held.old.groups + (length held.old.frames + 1)) ≤ 1000 }
@@ -251,14 +266,15 @@ fn in_frame(
 {
     match token {
         Terminal::Sign(Sign::Comma) => {
-            frame.done.push(term)?;
-            held.frames.push(frame)?;
+            let Frame { word, done } = frame;
+            let done = with_term(done, term)?;
+            held.frames.push(Frame { word, done })?;
             Ok(Some(Mode::WantTerm))
         }
         Terminal::Sign(Sign::Right) => {
-            frame.done.push(term)?;
-            held.room += 1;
             let Frame { word, done } = frame;
+            let done = with_term(done, term)?;
+            held.room += 1;
             Ok(Some(Mode::AfterApp(word, done)))
         }
         _ => Err(StepFault::Wrong(What::Syntax)),
@@ -279,6 +295,7 @@ fn right_side(held: &mut Held, left: Tree, sign: bool) -> Mode
 
 /// An equation was read.
 fn end_equation(
+    alloc: Global,
     held: &mut Held,
     left: Tree,
     right: Tree,
@@ -290,12 +307,18 @@ fn end_equation(
     ensures room { OnOk result (HasRoom held.new) }
 {
     let sign = held.sign;
+    let right = Side::of(alloc, right)?;
     end_atom(held, sign, TreeAtom::Equal(left, right))?;
     after_literal(held, token)
 }
 
 /// Behind a variable.
-fn after_var(held: &mut Held, name: Text, token: &Terminal) -> Result<Option<Mode>, StepFault>
+fn after_var(
+    alloc: Global,
+    held: &mut Held,
+    name: Word,
+    token: &Terminal,
+) -> Result<Option<Mode>, StepFault>
     requires room { HasRoom held.old }
     ensures turns { (m : Mode) → Turns held.new result (var_step (state_of m held.old) name held.old.frames token.now) }
     ensures room { OnOk result (HasRoom held.new) }
@@ -304,7 +327,7 @@ fn after_var(held: &mut Held, name: Text, token: &Terminal) -> Result<Option<Mod
         return in_frame(held, Tree::Var(name), frame, token);
     }
     if let Some(left) = held.left.take() {
-        return end_equation(held, left, Tree::Var(name), token);
+        return end_equation(alloc, held, left, Tree::Var(name), token);
     }
     let sign = held.sign;
     match token {
@@ -316,8 +339,9 @@ fn after_var(held: &mut Held, name: Text, token: &Terminal) -> Result<Option<Mod
 
 /// Behind a word with its arguments.
 fn after_app(
+    alloc: Global,
     held: &mut Held,
-    word: Text,
+    word: Word,
     args: Trees,
     token: &Terminal,
 ) -> Result<Option<Mode>, StepFault>
@@ -329,7 +353,7 @@ fn after_app(
         return in_frame(held, Tree::App(word, args), frame, token);
     }
     if let Some(left) = held.left.take() {
-        return end_equation(held, left, Tree::App(word, args), token);
+        return end_equation(alloc, held, left, Tree::App(word, args), token);
     }
     let sign = held.sign;
     match token {
@@ -346,7 +370,7 @@ fn after_app(
 fn after_word(
     alloc: Global,
     held: &mut Held,
-    word: Text,
+    word: Word,
     token: &Terminal,
 ) -> Result<Option<Mode>, StepFault>
     requires room { HasRoom held.old }
@@ -365,7 +389,7 @@ fn after_word(
             })?;
             Ok(Some(Mode::WantTerm))
         }
-        _ => after_app(held, word, Trees::new(alloc), token),
+        _ => after_app(alloc, held, word, Trees::new(alloc), token),
     }
 }
 
@@ -384,9 +408,9 @@ pub fn step(
         Mode::WantLiteral => want_literal(held, token),
         Mode::WantNegated(sign) => want_negated(held, sign, token),
         Mode::WantTerm => want_term(held, token),
-        Mode::AfterWord(word) => after_word(alloc, held, word, &token),
-        Mode::AfterVar(name) => after_var(held, name, &token),
-        Mode::AfterApp(word, args) => after_app(held, word, args, &token),
+        Mode::AfterWord(word) => after_word(alloc, held, Word::of(alloc, word)?, &token),
+        Mode::AfterVar(name) => after_var(alloc, held, Word::of(alloc, name)?, &token),
+        Mode::AfterApp(word, args) => after_app(alloc, held, word, args, &token),
         Mode::AfterLiteral => after_literal(held, &token),
     }
 }

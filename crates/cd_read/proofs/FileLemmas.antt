@@ -21,9 +21,8 @@ use Rattle.cd_read.specs.declared.labels.Wanted.{Wanted}
 use Rattle.cd_read.specs.declared.labels.Wanted.TheVariants.{All, Listed}
 use Rattle.cd_read.specs.Labels.{Wants}
 use Rattle.cd_read.specs.States.{so_far, Ahead, Fetched, HasPlaces, Nexts, Listed as IsListed, CameFile, CameFrom, CameInclude, Took}
-use Rattle.cd_read.specs.Fetched.{Told, IsOfLibrary, IsReadCounted, IsReadFault, Holds, AreWhole, total, EndsLong, GaveWhole, GaveWrong, IsWholeFile, IsLongFile}
+use Rattle.cd_read.specs.Fetched.{Told, IsOfLibrary, IsReadFrom, IsReadFault, Holds, AreWhole, total, EndsLong, GaveWhole, GaveWrong, IsWholeFile, IsLongFile}
 use Rattle.cd_read.proofs.StateLemmas.{start_at}
-use Rattle.cd_read.proofs.Takes.{problem_takes}
 use Rattle.cd_read.proofs.Spending.{gives_none, gives_append, total-append}
 
 -- ---- whole files
@@ -67,7 +66,7 @@ took_wrong h k u v a b c w xs ys stays s t = record { told = gives_append a b c 
   where
     by : AreWhole k ys ⊎ EndsLong k v w ys → AreWhole h (xs ++ ys) ⊎ EndsLong h u w (xs ++ ys)
     by (inl all) = inl (whole_append h xs ys s.whole (whole_before h k ys stays all))
-    by (inr (front, p, bytes, split, all, is, much)) =
+    by (inr (front, p, bytes, split, all, is, much, over)) =
         let used : v + total front ≡ u + total (xs ++ front) = omega (arith, s.sums, total-append xs front) in
         inr (
           xs ++ front,
@@ -77,6 +76,7 @@ took_wrong h k u v a b c w xs ys stays s t = record { told = gives_append a b c 
           whole_append h xs front s.whole (whole_before h k front stays all),
           is,
           subst (λ (n : ℕ). IsLongFile n (h p)) used (subst (λ (o : Option Bytes). IsLongFile (v + total front) o) (stays p) much),
+          omega (arith, over, used),
         )
 
 pub took_whole : (h : Holds) (u v : ℕ) (a b : Told) (xs : List File) → Took h u v a b xs → GaveWhole h a b xs
@@ -253,7 +253,7 @@ file_stopped i path hs s sm s' before now (failure.Wrong w) e (is, (bytes, told,
     let named : w ≡ wrong_at what.Long i.path 0 = is ∙ ap (λ (x : List ℕ). wrong_at what.Long x 0) e in
     let long_ : IsLongFile (s.used + 0) (hs i.path) = subst (λ (n : ℕ). IsLongFile n (hs i.path)) (omega arith) (subst (λ (x : List ℕ). IsLongFile s.used (hs x)) e much) in (
       (i.path, bytes) ∷ [],
-      record { told = subst (λ (x : List ℕ). Gives before now ((x, bytes) ∷ [])) e told; whole = inr ([], i.path, bytes, refl, tt, named, long_) },
+      record { told = subst (λ (x : List ℕ). Gives before now ((x, bytes) ∷ [])) e told; whole = inr ([], i.path, bytes, refl, tt, named, long_, omega (arith, over)) },
       λ left. subst (λ (y : Wrong). ReadsFile i (so_far s ((i.path, bytes) ∷ left)) (wrong y left)) (sym named)
           (long i (so_far s ((i.path, bytes) ∷ left)) bytes left refl over),
     )
@@ -312,21 +312,13 @@ problem_fault path hs s s' before now failure.Memory fresh h = tt
 
 pub problem_read : (path name : List ℕ) (hs : Holds) (s s' : State) (before now : Told) (u : Unit {0}) → name ≡ path → IsFresh s
     → CameFile (start path) hs s s' before now (Ok u) →
-    IsReadCounted path hs before now (record { name = name; symbols = s'.symbols; inputs = s'.inputs }) s'.used
+    IsReadFrom path hs before now (record { name = name; symbols = s'.symbols; inputs = s'.inputs })
 unfolding CameFile
 problem_read path name hs s s' before now u e fresh (given, told, reads) = (
   given,
   took_whole hs s.used s'.used before now given told,
   record { labels = s'.seen; used = s'.used; reads = begins path s given (read (so_far s' [])) fresh (reads []); name = e },
-  omega (arith, told.sums, fresh.0),
 )
-
-pub problem_room : (path : List ℕ) (hs : Holds) (s s' : State) (before now : Told) (u : Unit {0}) → IsFresh s
-    → CameFile (start path) hs s s' before now (Ok u) → 2 * length s'.symbols ≤ s'.used
-unfolding CameFile
-problem_room path hs s s' before now u fresh (given, told, reads) =
-    problem_takes given path (record { name = path; symbols = s'.symbols; inputs = s'.inputs })
-    (record { labels = s'.seen; used = s'.used; reads = begins path s given (read (so_far s' [])) fresh (reads []); name = refl })
 
 pub all_wanted : (l : Label) → Unit {0} ↔ Unit {0}
 all_wanted l = (λ h. tt, λ h. tt)

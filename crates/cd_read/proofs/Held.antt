@@ -1,5 +1,6 @@
 -- What a library holds decides what reading comes to.
-use Rattle.std.proofs.Common.{◌≡◌, inl, inr, ◌∙◌, ◌+◌, ◌*◌, ◌∷◌, [], ℕ, List, Option, Some, None, length, refl, sym, ap, subst, arith}
+use Rattle.std.proofs.Common.{◌≡◌, ◌⊎◌, inl, inr, ◌∙◌, ◌+◌, ◌*◌, ◌<◌, ◌≤◌, ◌++◌, ◌∷◌, [], ℕ, List, Option, Some, None, length, refl, sym, ap, subst, arith}
+use Rattle.std.proofs.lemmas.List.Sums.{sum_by-cons}
 use Rattle.std.specs.Prelude.{Contains, Result, Ok, Err}
 use Rattle.cd_read.specs.Files.{Reads}
 use Rattle.std.specs.List.{AllByRecursion}
@@ -15,15 +16,15 @@ use Rattle.cd_parse.specs.declared.statement.Statement.TheVariants.{Clause, Incl
 use Rattle.cd_parse.specs.Parts.{Part, statement, over, broken}
 use Rattle.cd_read.specs.Files.{File, SoFar, Outcome, read, wrong, needs, Inside, opens, included, Adds, IsStart, IsMissing, AllOccur, since, wrong_at, IsStopped, ReadsFile, unfetched, long, file, ReadsFrom, ends, breaks, clause, too_large, includes, stops, misses, start, nothing_read, GivesProblem, HasFault}
 use Rattle.cd_parse.proofs.OnePart.{part_single}
-use Rattle.cd_read.specs.Fetched.{Holds}
-use Rattle.cd_read.specs.Laws.{AreHeld}
+use Rattle.cd_read.specs.Fetched.{Holds, Told, AreWhole, EndsLong, GaveWrong, IsWholeFile, IsLongFile, total}
+use Rattle.cd_read.specs.Laws.{AreHeld, AreTold}
 use Rattle.cd_read.proofs.Outcomes.{start_single, missing_single, occurs_all, adds_single, adds_small, adds_keeps, Behind, Rest, seen, FileRest, seen_file, file_keeps, none_distinct}
 
 -- equal but for the files that are left
 pub record Like (H : Holds) (s t : SoFar) : Type 0 where
   pub same : t ≡ record s { left = t.left }
   pub here : AreHeld H s.left
-  pub there : AreHeld H t.left
+  pub there : AreTold H s.used t.left
 
 -- nothing is said where a file is needed
 abbrev pub Agree : Holds → Outcome → Outcome → Type 0
@@ -50,43 +51,72 @@ adds_left : (i : Inside) (l : Label) (r : Role) (ls : List TreeLiteral) (s s' : 
 adds_left i l r ls s s' (within, inl (chosen, (c, symbols, gives, few, e))) = ap (λ (x : SoFar). x.left) e
 adds_left i l r ls s s' (within, inr (out, e)) = ap (λ (x : SoFar). x.left) e
 
-bytes_single : (H : Holds) (p : List ℕ) (b c : Bytes) (xs ys l m : List File) → AreHeld H xs → AreHeld H ys → xs ≡ (p, b) ∷ l
-    → ys ≡ (p, c) ∷ m → b ≡ c
-bytes_single H p b c xs ys l m held held' e f =
-    let x = (subst (AreHeld H) e held).0 in
-    let y = (subst (AreHeld H) f held').0 in
-    let both : Some b ≡ Some c = sym x ∙ y in cc
+adds_used : (i : Inside) (l : Label) (r : Role) (ls : List TreeLiteral) (s s' : SoFar) → Adds i l r ls s s' → s'.used ≡ s.used
+adds_used i l r ls s s' (within, inl (chosen, (c, symbols, gives, few, e))) = ap (λ (x : SoFar). x.used) e
+adds_used i l r ls s s' (within, inr (out, e)) = ap (λ (x : SoFar). x.used) e
+
+-- the first file of the one list and that of the other, where both are the next that is read
+pub data Firsts (H : Holds) (p : List ℕ) (b c : Bytes) (used : ℕ) (rest : List File) : Type 0 where
+  same : b ≡ c → AreTold H (used + length c) rest → Firsts H p b c used rest
+  cut : 4194304 < used + length b → 4194304 < used + length c → Firsts H p b c used rest
+
+firsts : (H : Holds) (p : List ℕ) (b c : Bytes) (used : ℕ) (xs ys l m : List File) → AreHeld H xs → AreTold H used ys → xs ≡ (p, b) ∷ l
+    → ys ≡ (p, c) ∷ m → Firsts H p b c used m
+firsts H p b c used xs ys l m held told e f = by (subst (AreTold H used) f told)
+  where
+    there : H p ≡ Some b
+    there = (subst (AreHeld H) e held).0
+
+    by : AreTold H used ((p, c) ∷ m) → Firsts H p b c used m
+    by (inl (whole, rest)) = same (sym (subst (λ (o : Option Bytes). IsWholeFile o c) there whole)) rest
+    by (inr (all, past)) = cut (subst (λ (o : Option Bytes). IsLongFile used o) there all) past
 
 rest_held : (H : Holds) (f : File) (xs l : List File) → AreHeld H xs → xs ≡ f ∷ l → AreHeld H l
 rest_held H f xs l held e = (subst (AreHeld H) e held).1
 
 mutual
   pub file_agree : (H : Holds) (i : Inside) (s : SoFar) (o : Outcome) → ReadsFile i s o → AreDistinct s.symbols → AreHeld H s.left
-      → (m : List File) → AreHeld H m → (o' : Outcome)
+      → (m : List File) → AreTold H s.used m → (o' : Outcome)
       → ReadsFile i (record s { left = m }) o' → Agree H o o'
   file_agree H _ _ _ (unfetched i s empty) distinct held m held' o' d' = tt
   file_agree H _ _ _ (long i s bytes left some much) distinct held m held' o' d' = by (seen_file i (record s { left = m }) o' d')
     where
+      few : (bytes' : Bytes) (left' : List File) → s.used + length bytes' ≤ 4194304 → Firsts H i.path bytes bytes' s.used left' → ⊥
+      few bytes' left' few' (same e rest) = omega (arith, much, few', ap length e)
+      few bytes' left' few' (cut past past') = omega (arith, past', few')
+
       by : FileRest i (record s { left = m }) o' → Agree H (wrong (wrong_at what.Long i.path 0) left) o'
       by (inl (empty, e)) = subst (Agree H (wrong (wrong_at what.Long i.path 0) left)) (sym e) tt
       by (inr (bytes', left', some', inl (much', e))) = subst (Agree H (wrong (wrong_at what.Long i.path 0) left)) (sym e) refl
       by (inr (bytes', left', some', inr (few', from'))) =
-          absurd (omega (arith, much, few', ap length (bytes_single H i.path bytes bytes' s.left m left left' held held' some some')))
+          absurd (few bytes' left' few' (firsts H i.path bytes bytes' s.used s.left m left left' held held' some some'))
   file_agree H _ _ _ (file i s bytes left o some few from) distinct held m held' o' d' =
       by (λ n h x. from_agree H i bytes 0 (record s { left = left; used = s.used + length bytes }) o from distinct (rest_held H (i.path, bytes) s.left left held some) n h o' x)
       (seen_file i (record s { left = m }) o' d')
     where
-      by : ((n : List File) → AreHeld H n → ReadsFrom i bytes 0 (record s { left = n; used = s.used + length bytes }) o' → Agree H o o')
-          → FileRest i (record s { left = m }) o' → Agree H o o'
+      Recurs : Type 0
+      Recurs = (n : List File) → AreTold H (s.used + length bytes) n → ReadsFrom i bytes 0 (record s { left = n; used = s.used + length bytes }) o' → Agree H o o'
+
+      much_past : (bytes' : Bytes) (left' : List File) → 4194304 < s.used + length bytes' → Firsts H i.path bytes bytes' s.used left' → ⊥
+      much_past bytes' left' much' (same e rest) = omega (arith, much', few, ap length e)
+      much_past bytes' left' much' (cut past past') = omega (arith, past, few)
+
+      on : Recurs → (bytes' : Bytes) (left' : List File) → ReadsFrom i bytes' 0 (record s { left = left'; used = s.used + length bytes' }) o'
+          → Firsts H i.path bytes bytes' s.used left' → Agree H o o'
+      on recur bytes' left' from' (same e rest) =
+          recur left' (subst (λ (b : Bytes). AreTold H (s.used + length b) left') (sym e) rest)
+          (subst (λ (b : Bytes). ReadsFrom i b 0 (record s { left = left'; used = s.used + length b }) o') (sym e) from')
+      on recur bytes' left' from' (cut past past') = absurd (omega (arith, past, few))
+
+      by : Recurs → FileRest i (record s { left = m }) o' → Agree H o o'
       by recur (inl (empty, e)) = subst (Agree H o) (sym e) (needy H o i.path)
       by recur (inr (bytes', left', some', inl (much', e))) =
-          absurd (omega (arith, much', few, ap length (bytes_single H i.path bytes bytes' s.left m left left' held held' some some')))
+          absurd (much_past bytes' left' much' (firsts H i.path bytes bytes' s.used s.left m left left' held held' some some'))
       by recur (inr (bytes', left', some', inr (few', from'))) =
-          recur left' (rest_held H (i.path, bytes') m left' held' some')
-          (subst (λ (b : Bytes). ReadsFrom i b 0 (record s { left = left'; used = s.used + length b }) o') (sym (bytes_single H i.path bytes bytes' s.left m left left' held held' some some')) from')
+          on recur bytes' left' from' (firsts H i.path bytes bytes' s.used s.left m left left' held held' some some')
 
   from_agree : (H : Holds) (i : Inside) (bytes : Bytes) (at : ℕ) (s : SoFar) (o : Outcome) → ReadsFrom i bytes at s o
-      → AreDistinct s.symbols → AreHeld H s.left → (m : List File) → AreHeld H m
+      → AreDistinct s.symbols → AreHeld H s.left → (m : List File) → AreTold H s.used m
       → (o' : Outcome) → ReadsFrom i bytes at (record s { left = m }) o' → Agree H o o'
   from_agree H _ _ _ _ _ (ends i bytes at s is) distinct held m held' o' d' =
       let v = seen i bytes at (record s { left = m }) o' d' in
@@ -98,7 +128,8 @@ mutual
       subst (Agree H (wrong (wrong_at w i.path place) s.left)) (sym e) refl
   from_agree H _ _ _ _ _ (clause i bytes at to s s' o ps l r ls is adds more) distinct held m held' o' d' =
       let v = seen i bytes at (record s { left = m }) o' d' in
-      by (λ x. from_agree H i bytes to s' o more (adds_keeps i l r ls s s' distinct adds) (subst (AreHeld H) (sym (adds_left i l r ls s s' adds)) held) m held' o' x)
+      by (λ x. from_agree H i bytes to s' o more (adds_keeps i l r ls s s' distinct adds) (subst (AreHeld H) (sym (adds_left i l r ls s s' adds)) held) m
+      (subst (λ (n : ℕ). AreTold H n m) (sym (adds_used i l r ls s s' adds)) held') o' x)
       (subst (λ (x : Part). Rest i bytes (record s { left = m }) x o') (part_single (opens i) bytes at v.part (statement (Clause l r ls) ps to) v.is is) v.rest)
     where
       by : (ReadsFrom i bytes to (record s' { left = m }) o' → Agree H o o')
@@ -124,7 +155,7 @@ mutual
       by (λ here n h x. from_agree H i bytes to s' o more (file_keeps (included i p only) s (read s') inner distinct) here n h o' x) only all r.0
       (file_agree H (included i p only) s (read s') inner distinct held m held' r.0 r.1) r.2
     where
-      by : (AreHeld H s'.left → (n : List File) → AreHeld H n → ReadsFrom i bytes to (record s' { left = n }) o' → Agree H o o')
+      by : (AreHeld H s'.left → (n : List File) → AreTold H s'.used n → ReadsFrom i bytes to (record s' { left = n }) o' → Agree H o o')
           → (only : Option (List Label)) → AllOccur only (since s s') → (x : Outcome)
           → Agree H (read s') x → Behind i bytes to (record s { left = m }) ps only x o' → Agree H o o'
       by recur only' all' (read t) like (inl (also, more')) =
@@ -172,29 +203,56 @@ mutual
 
 -- ---- the laws
 
-held_problems : (H : Holds) (files files' : List File) (path : List ℕ) (p q : Problem) → AreHeld H files → AreHeld H files'
+held_problems : (H : Holds) (files files' : List File) (path : List ℕ) (p q : Problem) → AreHeld H files → AreTold H 0 files'
     → GivesProblem files path p → GivesProblem files' path q → p ≡ q
-held_problems H files files' path p q held held' a b =
-    let like = file_agree H (start path) (nothing_read files) _ a.reads none_distinct held files' held' _ b.reads in
+held_problems H files files' path p q held told a b =
+    let like = file_agree H (start path) (nothing_read files) _ a.reads none_distinct held files' told _ b.reads in
     let names : p.name ≡ q.name = a.name ∙ sym b.name in
     let same = like.same in
     λ i. record { name = names i; symbols = (sym same i).symbols; inputs = (sym same i).inputs }
 
-held_faults : (H : Holds) (files files' : List File) (path : List ℕ) (v w : Wrong) → AreHeld H files → AreHeld H files'
+held_faults : (H : Holds) (files files' : List File) (path : List ℕ) (v w : Wrong) → AreHeld H files → AreTold H 0 files'
     → HasFault files path v → HasFault files' path w → v ≡ w
-held_faults H files files' path v w held held' a b =
-    file_agree H (start path) (nothing_read files) (wrong v []) a none_distinct held files' held' (wrong w []) b
+held_faults H files files' path v w held told a b =
+    file_agree H (start path) (nothing_read files) (wrong v []) a none_distinct held files' told (wrong w []) b
 
-held_apart : (H : Holds) (files files' : List File) (path : List ℕ) (p : Problem) (w : Wrong) → AreHeld H files → AreHeld H files'
-    → GivesProblem files path p → ¬ HasFault files' path w
-held_apart H files files' path p w held held' a b =
-    file_agree H (start path) (nothing_read files) _ a.reads none_distinct held files' held' (wrong w []) b
+held_problem_apart : (H : Holds) (files files' : List File) (path : List ℕ) (p : Problem) (w : Wrong) → AreHeld H files
+    → AreTold H 0 files' → GivesProblem files path p → ¬ HasFault files' path w
+held_problem_apart H files files' path p w held told a b =
+    file_agree H (start path) (nothing_read files) _ a.reads none_distinct held files' told (wrong w []) b
+
+held_fault_apart : (H : Holds) (files files' : List File) (path : List ℕ) (w : Wrong) (p : Problem) → AreHeld H files
+    → AreTold H 0 files' → HasFault files path w → ¬ GivesProblem files' path p
+held_fault_apart H files files' path w p held told a b =
+    file_agree H (start path) (nothing_read files) (wrong w []) a none_distinct held files' told _ b.reads
 
 pub held_readings : (H : Holds) (files files' : List File) (path : List ℕ) (r q : Result Problem Wrong) → AreHeld H files
-    → AreHeld H files' → Reads files path r → Reads files' path q → r ≡ q
-held_readings H files files' path (Ok p) (Ok q) held held' a b =
-    ap (λ (x : Problem). Ok x) (held_problems H files files' path p q held held' a b)
-held_readings H files files' path (Ok p) (Err w) held held' a b = absurd (held_apart H files files' path p w held held' a b)
-held_readings H files files' path (Err v) (Ok q) held held' a b = absurd (held_apart H files' files path q v held' held b a)
-held_readings H files files' path (Err v) (Err w) held held' a b =
-    ap (λ (x : Wrong). Err x) (held_faults H files files' path v w held held' a b)
+    → AreTold H 0 files' → Reads files path r → Reads files' path q → r ≡ q
+held_readings H files files' path (Ok p) (Ok q) held told a b =
+    ap (λ (x : Problem). Ok x) (held_problems H files files' path p q held told a b)
+held_readings H files files' path (Ok p) (Err w) held told a b = absurd (held_problem_apart H files files' path p w held told a b)
+held_readings H files files' path (Err v) (Ok q) held told a b = absurd (held_fault_apart H files files' path v q held told a b)
+held_readings H files files' path (Err v) (Err w) held told a b =
+    ap (λ (x : Wrong). Err x) (held_faults H files files' path v w held told a b)
+
+-- ---- what calls say that they were told
+
+pub whole_told : (H : Holds) (used : ℕ) (files : List File) → AreWhole H files → AreTold H used files
+whole_told H used [] whole = tt
+whole_told H used (f ∷ files) whole = inl (whole.0, whole_told H (used + length f.1) files whole.1)
+
+cut_told : (H : Holds) (used : ℕ) (front : List File) (p : List ℕ) (bytes : Bytes) → AreWhole H front → IsLongFile (used + total front) (H p)
+    → 4194304 < used + total front + length bytes → AreTold H used (front ++ (p, bytes) ∷ [])
+cut_told H used [] p bytes whole all past =
+    inr (subst (λ (n : ℕ). IsLongFile n (H p)) (omega arith) all, omega (arith, past))
+cut_told H used (f ∷ front) p bytes whole all past =
+    let sums : used + total (f ∷ front) ≡ used + length f.1 + total front = omega (arith, sum_by-cons (λ (x : File). length x.1) f front) in
+    inl (whole.0, cut_told H (used + length f.1) front p bytes whole.1 (subst (λ (n : ℕ). IsLongFile n (H p)) sums all) (omega (arith, past, sums)))
+
+pub fault_told : (H : Holds) (used : ℕ) (before now : Told) (w : Wrong) (files : List File) → GaveWrong H used before now w files
+    → AreTold H used files
+fault_told H used before now w files gave = by gave.whole
+  where
+    by : AreWhole H files ⊎ EndsLong H used w files → AreTold H used files
+    by (inl whole) = whole_told H used files whole
+    by (inr (front, p, bytes, split, whole, is, all, past)) = subst (AreTold H used) (sym split) (cut_told H used front p bytes whole all past)

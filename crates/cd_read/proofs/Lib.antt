@@ -14,6 +14,5 @@ pub mod Printable
 pub mod Words
 pub mod Meanings
 pub mod Counts
-pub mod Takes
 pub mod Read
 pub mod Held

@@ -1,6 +1,6 @@
 -- Atoms and literals given one after another.
-use Rattle.std.proofs.Common.{◌≡◌, ℕ, Bool, ◌+◌, ◌<◌, ◌≤◌, List, [], ◌∷◌, ◌++◌, length, get_or, take, drop, sum_by, subst, sym, ap, refl, arith, length-append}
-use Rattle.std.proofs.lemmas.List.{take_all, take-append-drop}
+use Rattle.std.proofs.Common.{◌≡◌, ℕ, Bool, ◌+◌, ◌<◌, ◌≤◌, List, [], ◌∷◌, ◌++◌, length, get_or, take, drop, sum_by, subst, sym, ap, refl, arith, length-append, ◌∙◌}
+use Rattle.std.proofs.lemmas.List.{take_all, take-append-drop, length-drop, drop_more}
 use Rattle.std.proofs.lemmas.List.Sums.{sum_by-cons, sum_by_more, sum_by-take-le}
 use Rattle.cd_term.specs.declared.Term.{Term}
 use Rattle.cd_clause.specs.declared.Atom.{Atom}
@@ -168,3 +168,37 @@ literal_overflows ss sm vs vm ls outs i x lt at g (a, ss', vs', h, over) =
 pub all_literals : (ss ss' : List Symbol) (vs vs' : Variables) (ls : List TreeLiteral) (outs : List Literal) (i : ℕ) → length ls ≤ i →
     GivesLiterals ss vs (take i ls) outs ss' vs' → GivesLiterals ss vs ls outs ss' vs'
 all_literals ss ss' vs vs' ls outs i le g = subst (λ xs. GivesLiterals ss vs xs outs ss' vs') (take_all i ls le) g
+
+-- the first of what is left of a list
+pub opened_at : {A : Type 0} (ls xs ys : List A) (x : A) (i : ℕ) → xs ≡ drop i ls → xs ≡ x ∷ ys →
+    (i < length ls) × (x ≡ get_or ls i x) × (ys ≡ drop (i + 1) ls)
+opened_at ls xs ys x i at is =
+    let e : x ∷ ys ≡ drop i ls = sym is ∙ at in
+    let lt : i < length ls = omega (arith, ap length e, length-drop i ls) in
+    let both : x ∷ ys ≡ get_or ls i x ∷ drop (i + 1) ls = e ∙ drop_more ls i x lt in
+    let here : x ≡ get_or ls i x = cc in
+    let later : ys ≡ drop (i + 1) ls = cc in
+    (lt, here, later)
+
+-- nothing is left of a list
+pub closed_at : {A : Type 0} (ls xs : List A) (i : ℕ) → xs ≡ drop i ls → xs ≡ [] → length ls ≤ i
+closed_at ls xs i at is = omega (arith, ap length (sym is ∙ at), length-drop i ls)
+
+-- the literals up to a place are given, and what is left begins there
+abbrev pub AreGiven : List Symbol → List TreeLiteral → List TreeLiteral → List Literal → List Symbol → Variables → Type 0
+AreGiven ss ls rest outs ss' vs' = (i : ℕ) × (rest ≡ drop i ls) × GivesLiterals ss [] (take i ls) outs ss' vs'
+
+pub one_more_given : (ss sm ss' : List Symbol) (vm vs' : Variables) (ls rest later : List TreeLiteral) (outs news : List Literal) (x : TreeLiteral) (a : Atom)
+    → AreGiven ss ls rest outs sm vm → rest ≡ x ∷ later → GivesAtom sm vm x.atom a ss' vs' → news ≡ outs ++ literal x.positive a ∷ []
+    → AreGiven ss ls later news ss' vs'
+one_more_given ss sm ss' vm vs' ls rest later outs news x a (i, at, g) is h e =
+    let open_ = opened_at ls rest later x i at is in (
+      i + 1,
+      open_.2,
+      subst (λ (os : List Literal). GivesLiterals ss [] (take (i + 1) ls) os ss' vs') (sym e)
+          (next_literal ss sm ss' [] vm vs' ls outs i x a open_.0 open_.1 g h),
+    )
+
+pub all_given : (ss ss' : List Symbol) (vs' : Variables) (ls rest : List TreeLiteral) (outs : List Literal) → AreGiven ss ls rest outs ss' vs'
+    → rest ≡ [] → GivesLiterals ss [] ls outs ss' vs'
+all_given ss ss' vs' ls rest outs (i, at, g) e = all_literals ss ss' [] vs' ls outs i (closed_at ls rest i at e) g

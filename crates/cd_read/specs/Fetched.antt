@@ -1,5 +1,5 @@
 -- What reading through a library tells: which files were fetched, in which order, and what they come to.
--- Beyond the headline: no clause of `prove` reaches FetchesAtMost, IsReadFrom, IsReadCounted, IsOfLibrary.
+-- Beyond the headline: no clause of `prove` reaches FetchesAtMost, IsReadFrom, IsOfLibrary.
 use Rattle.std.specs.Prelude.{◌≡◌, ◌⊎◌, ◌<◌, ◌≤◌, ◌+◌, ◌++◌, ◌∷◌, [], ⊤, ℕ, List, Option, Some, None, Ok, Err, length, sum_by}
 use Rattle.std.specs.List.{AllByRecursion}
 use Rattle.cd_lex.specs.Bytes.{Bytes}
@@ -37,11 +37,11 @@ AreWhole holds files = AllByRecursion (λ f. IsWholeFile (holds f.0) f.1) files
 abbrev pub total : List File → ℕ
 total files = sum_by (λ f. length f.1) files
 
--- the last file is longer than what is left behind the others, which are whole; and that is the fault
+-- the last file is longer than what is left behind the others, which are whole, and so is what was told of it; and that is the fault
 abbrev pub EndsLong : Holds → ℕ → Wrong → List File → Type 0
 EndsLong holds used w files =
     (front : List File) × (p : List ℕ) × (bytes : Bytes) × (files ≡ front ++ (p, bytes) ∷ []) × AreWhole holds front
-    × (w ≡ wrong_at what.Long p 0) × IsLongFile (used + total front) (holds p)
+    × (w ≡ wrong_at what.Long p 0) × IsLongFile (used + total front) (holds p) × (4194304 < used + total front + length bytes)
 
 -- these files were told, each of them whole
 pub record GaveWhole (holds : Holds) (before now : Told) (files : List File) : Type 0 where
@@ -62,11 +62,6 @@ pub record FetchesAtMost (most : ℕ) (before now : Told) : Type 0 where
 -- the files that were told, each whole where the library tells it, give this problem
 abbrev pub IsReadFrom : List ℕ → Holds → Told → Told → Problem → Type 0
 IsReadFrom path holds before now p = (files : List File) × GaveWhole holds before now files × Reads files path (Ok p)
-
--- and so many bytes they have in all
-abbrev pub IsReadCounted : List ℕ → Holds → Told → Told → Problem → ℕ → Type 0
-IsReadCounted path holds before now p bytes =
-    (files : List File) × GaveWhole holds before now files × Reads files path (Ok p) × (bytes ≡ total files)
 
 -- the files that were told have this fault first, each whole, or the fault is that the last one is too long; or they need this file next
 abbrev pub IsReadFault : List ℕ → Holds → Told → Told → ReadFault → Type 0

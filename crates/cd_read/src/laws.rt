@@ -1,6 +1,6 @@
 //! The laws of reading that other crates build on. A function of this module does nothing: its contract is
 //! the law, and the check of this crate proves it.
-ghost use Rattle.cd_read.specs.Laws.{OutcomesAgree, ReadingsAgree, NeedsAgree, ReadingsNeedNothing, HeldReadingsAgree, ProblemsAreFormed, ProblemsAreBounded};
+ghost use Rattle.cd_read.specs.Laws.{OutcomesAgree, ReadingsAgree, NeedsAgree, ReadingsNeedNothing, HeldReadingsAgree, WholeFilesAreTold, FaultsAreTold, ProblemsAreFormed, ProblemsAreBounded};
 
 /// What reading a file comes to is one thing.
 pub fn one_outcome()
@@ -14,9 +14,12 @@ pub fn one_answer()
     ensures apart { ReadingsNeedNothing }
 {}
 
-/// Where each file is the whole of what a library holds, that decides the problem or the fault.
+/// Where each file is the whole of what a library holds, that decides the problem or the fault, whichever files are
+/// told of it: also with a last one that is cut, since it is too long.
 pub fn held()
-    ensures { HeldReadingsAgree }
+    ensures readings { HeldReadingsAgree }
+    ensures whole { WholeFilesAreTold }
+    ensures faults { FaultsAreTold }
 {}
 
 /// A problem that was read is formed: its texts are printable, its symbols stand in their arity and kind. Its

@@ -14,4 +14,4 @@ mod state;
 
 pub use cd_parse::{Label, Labels, Role, What};
 pub use problem::{Input, Inputs, Problem, Wrong};
-pub use reader::{ReadFault, read_counted, read_problem};
+pub use reader::{ReadFault, read_problem};

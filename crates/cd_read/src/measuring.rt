@@ -3,7 +3,7 @@ ghost use Rattle.std.specs.Prelude.{◌↔◌, ◌∷◌, [], IsTrue};
 ghost use Rattle.cd_read.specs.Meaning.{AreWithin};
 ghost use Rattle.cd_read.specs.Bounds.{IsMeasure, AreMeasured, IsAtomMeasure};
 
-use cd_parse::{Tree, TreeAtom, TreeLiteral};
+use cd_parse::{Side, Tree, TreeAtom, TreeLiteral};
 
 /// The most symbols and variables that a clause has.
 const MAX_SYMBOLS: u64 = 65_535;
@@ -47,13 +47,19 @@ fn measure_all(ts: &[Tree], symbols: u64, levels: u64) -> Option<u64>
     Some(total)
 }
 
-fn measure_both(l: &Tree, r: &Tree, symbols: u64, levels: u64) -> Option<u64>
+fn measure_side(side: &Side, symbols: u64, levels: u64) -> Option<u64>
+    ensures { IsMeasure symbols levels side.now result }
+{
+    measure(side.tree(), symbols, levels)
+}
+
+fn measure_both(l: &Tree, r: &Side, symbols: u64, levels: u64) -> Option<u64>
     ensures { AreMeasured symbols levels (l.now ∷ r.now ∷ []) result }
 {
     let Some(left) = measure(l, symbols, levels) else {
         return None;
     };
-    let Some(right) = measure(r, symbols - left, levels) else {
+    let Some(right) = measure_side(r, symbols - left, levels) else {
         return None;
     };
     Some(left + right)

@@ -1,13 +1,13 @@
 //! Symbols interned and variables numbered, in the order of reading.
-ghost use Rattle.std.specs.Prelude.{◌≡◌, ◌<◌, ◌≤◌, ◌+◌, ◌^◌, ◌∷◌, [], length, sum_by, IfOk, IfErr, OnOk, OnErr};
+ghost use Rattle.std.specs.Prelude.{◌≡◌, ◌<◌, ◌≤◌, ◌+◌, ◌^◌, ◌∷◌, ◌++◌, [], length, sum_by, IfOk, IfErr, OnOk, OnErr, MatchOption};
 ghost use Rattle.cd_symbols.specs.Symbol.{symbol_of, Interns};
 ghost use Rattle.cd_read.specs.Meaning.{GivesTerms, GivesAtom, GivesLiterals, GivesClause, IsNumbered, AreWithin};
 ghost use Rattle.cd_parse.specs.Trees.{size_of, atom_size};
 ghost use Rattle.cd_read.specs.Overflow.{IsFullAt, WhyTerms, WhyAtom, WhyLiterals, WhyClause};
 
-use cd_clause::{Atom, Clause, Literal, Literals};
-use cd_list::{Copied, Text};
-use cd_parse::{Tree, TreeAtom, TreeLiteral};
+use cd_clause::{Atom, Clause, Literal};
+use cd_list::{Sequence, Text};
+use cd_parse::{Side, Tree, TreeAtom, TreeLiteral, TreeLiterals, Word};
 use cd_symbols::{Kind, SymbolFault, Symbols};
 use cd_term::{Args, Term};
 use indexmap::IndexSet;
@@ -38,17 +38,17 @@ impl Variables {
     }
 
     /// The number of a variable, which is put at the end where it isn't there.
-    pub fn number(&mut self, alloc: Global, word: &Text) -> Result<u32, AllocError>
+    pub fn number(&mut self, alloc: Global, word: &Word) -> Result<u32, AllocError>
         requires few { length self.old < 2 ^ 32 }
         ensures ok { IfOk result (IsNumbered self.old self.new word.now) }
         ensures err { OnErr result (self.new ≡ self.old) }
     {
-        if let Some(place) = self.words.get_index_of(word) {
+        let text = word.text(alloc)?;
+        if let Some(place) = self.words.get_index_of(&text) {
             return Ok(place as u32);
         }
         let place = self.words.len();
-        let copy = word.copy(alloc)?;
-        self.words.insert(copy)?;
+        self.words.insert(text)?;
         Ok(place as u32)
     }
 }
@@ -74,8 +74,9 @@ impl From<AllocError> for PassFault {
 
 /// The number of a word with so many arguments.
 fn interned(
+    alloc: Global,
     symbols: &mut Symbols,
-    word: &Text,
+    word: &Word,
     arguments: usize,
     kind: Kind,
 ) -> Result<u16, PassFault>
@@ -83,11 +84,19 @@ fn interned(
     ensures ok { IfOk result (Interns symbols.old symbols.new (symbol_of word.now arguments kind)) }
     ensures err { IfErr result (IsFullAt symbols.old (symbol_of word.now arguments kind)) }
 {
-    match symbols.intern(word, arguments as u16, kind) {
+    let text = word.text(alloc)?;
+    match symbols.intern(&text, arguments as u16, kind) {
         Ok(number) => Ok(number),
         Err(SymbolFault::Full) => Err(PassFault::Full),
         Err(SymbolFault::Memory) => Err(PassFault::Memory),
     }
+}
+
+/// The empty list, with room for so many items.
+fn with_room<T>(alloc: Global, count: usize) -> Result<Sequence<T>, AllocError>
+    ensures { IfOk result (λ items. items ≡ []) }
+{
+    Ok(Sequence::from_vec(Vec::with_capacity(alloc, count)?))
 }
 
 /// The term of a tree.
@@ -105,8 +114,8 @@ fn numbered(
     match tree {
         Tree::Var(word) => Ok(Term::Var(variables.number(alloc, word)?)),
         Tree::App(word, args) => {
-            let number = interned(symbols, word, args.len(), Kind::Function)?;
-            let mut terms = Args::new(alloc);
+            let number = interned(alloc, symbols, word, args.len(), Kind::Function)?;
+            let mut terms = with_room(alloc, args.len())?;
             for arg in args.as_slice() {
                 let term = numbered(alloc, symbols, variables, arg)?;
                 terms.push(term)?;
@@ -127,12 +136,27 @@ fn numbered_all(
         (λ ts. GivesTerms symbols.old variables.old trees.now ts symbols.new variables.new) }
     ensures why { IfErr result (WhyTerms symbols.old variables.old trees.now) }
 {
-    let mut terms = Args::new(alloc);
+    let mut terms = with_room(alloc, trees.len())?;
     for tree in trees {
         let term = numbered(alloc, symbols, variables, tree)?;
         terms.push(term)?;
     }
     Ok(terms)
+}
+
+/// The same of the right side of an equation.
+fn numbered_side(
+    alloc: Global,
+    symbols: &mut Symbols,
+    variables: &mut Variables,
+    side: &Side,
+) -> Result<Term, PassFault>
+    requires few { length variables.old + size_of side.now ≤ 65535 }
+    ensures gives { IfOk result
+        (λ t. GivesTerms symbols.old variables.old (side.now ∷ []) (t ∷ []) symbols.new variables.new) }
+    ensures why { IfErr result (WhyTerms symbols.old variables.old (side.now ∷ [])) }
+{
+    numbered(alloc, symbols, variables, side.tree())
 }
 
 fn atom_of(
@@ -148,32 +172,83 @@ fn atom_of(
     match atom {
         TreeAtom::Truth => Ok(Atom::Truth),
         TreeAtom::Pred(word, args) => {
-            let number = interned(symbols, word, args.len(), Kind::Predicate)?;
+            let number = interned(alloc, symbols, word, args.len(), Kind::Predicate)?;
             let terms = numbered_all(alloc, symbols, variables, args.as_slice())?;
             Ok(Atom::Pred(number, terms))
         }
         TreeAtom::Equal(l, r) => {
             let left = numbered(alloc, symbols, variables, l)?;
-            let right = numbered(alloc, symbols, variables, r)?;
+            let right = numbered_side(alloc, symbols, variables, r)?;
             Ok(Atom::Equal(left, right))
         }
     }
 }
 
-/// The clause of literals as they are written. `Full` where it has a symbol beyond number 65,534; then, and
-/// where memory runs out, some of its symbols may be there.
+/// Items to be taken one after another. A contract sees those that are left, in their order.
+#[derive(Drop)]
+struct Rest<T> {
+    /// The first one last.
+    items: Vec<T>,
+}
+
+impl<T> Model for Rest<T> {
+    ghost use Rattle.std.specs.Prelude.{List, reverse};
+    ghost use Rattle.std.specs.Coded.{coded_list};
+
+    ghost Value = { List T };
+
+    ghost coded = { coded_list T.code };
+
+    ghost view = { λ it. reverse it.items.items };
+}
+
+fn last_of<T>(items: &mut Vec<T>) -> Option<T>
+    ensures { MatchOption result ((items.old.items ≡ []) × (items.new.items ≡ [])) (λ last. items.old.items ≡ items.new.items ++ last ∷ []) }
+{
+    items.pop()
+}
+
+/// How many items are taken before their room is given back.
+const TAKEN: usize = 1_024;
+
+impl<T> Rest<T> {
+    fn of(items: Sequence<T>) -> Rest<T>
+        ensures { result ≡ items }
+    {
+        let mut items = items;
+        items.reverse();
+        Rest {
+            items: items.into_vec(),
+        }
+    }
+
+    /// Takes the first one, and gives room back that isn't needed any more.
+    fn next(&mut self) -> Option<T>
+        ensures { MatchOption result ((self.old ≡ []) × (self.new ≡ [])) (λ first. self.old ≡ first ∷ self.new) }
+    {
+        let first = last_of(&mut self.items);
+        if self.items.len() % TAKEN == 0 {
+            self.items.shrink_to_fit();
+        }
+        first
+    }
+}
+
+/// The clause of literals as they are written, each of which is let go once it is numbered. `Full` where it has a
+/// symbol beyond number 65,534; then, and where memory runs out, some of its symbols may be there.
 pub fn clause_of(
     alloc: Global,
     symbols: &mut Symbols,
-    literals: &[TreeLiteral],
+    literals: TreeLiterals,
 ) -> Result<Clause, PassFault>
-    requires within { AreWithin literals.now }
-    ensures gives { IfOk result (λ c. GivesClause symbols.old literals.now c symbols.new) }
-    ensures why { IfErr result (WhyClause symbols.old literals.now) }
+    requires within { AreWithin literals }
+    ensures gives { IfOk result (λ c. GivesClause symbols.old literals c symbols.new) }
+    ensures why { IfErr result (WhyClause symbols.old literals) }
 {
     let mut variables = Variables::new(alloc);
-    let mut clause = Literals::new(alloc);
-    for literal in literals {
+    let mut clause = with_room(alloc, literals.len())?;
+    let mut rest = Rest::of(literals);
+    while let Some(literal) = rest.next() {
         let atom = atom_of(alloc, symbols, &mut variables, &literal.atom)?;
         clause.push(Literal {
             positive: literal.positive,

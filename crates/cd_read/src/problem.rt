@@ -4,6 +4,7 @@ ghost use Rattle.std.specs.Prelude.{◌≡◌};
 use cd_clause::Clause;
 use cd_list::{Copied, Sequence, Text};
 use cd_parse::{Label, Role, What};
+use cd_shared::SharedText;
 use cd_symbols::Symbols;
 use std::alloc::{AllocError, Global};
 
@@ -12,7 +13,7 @@ use std::alloc::{AllocError, Global};
 pub struct Input {
     pub label: Label,
     pub role: Role,
-    pub file: Text,
+    pub file: SharedText,
     pub clause: Clause,
 }
 

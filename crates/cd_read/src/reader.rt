@@ -1,10 +1,10 @@
 //! A file and the files that it includes.
-ghost use Rattle.std.specs.Prelude.{◌≡◌, ◌<◌, ◌≤◌, ◌*◌, ℕ, List, length, IfOk, IfErr, OnOk};
+ghost use Rattle.std.specs.Prelude.{◌≡◌, ◌<◌, ◌≤◌, ◌*◌, ◌-◌, ℕ, List, Some, length, slice_get, IfOk, IfErr, OnOk};
 ghost use Rattle.cd_outside.specs.Outside.{Rose};
 ghost use Rattle.cd_read.specs.Files.{Inside, opens as all_open};
 ghost use Rattle.cd_read.specs.Labels.{Wants};
 ghost use Rattle.cd_read.specs.States.{Spends, CameFile, CameFrom, CameInclude, HasPlaces};
-ghost use Rattle.cd_read.specs.Fetched.{IsOfLibrary, IsReadFrom, IsReadCounted, IsReadFault, FetchesAtMost};
+ghost use Rattle.cd_read.specs.Fetched.{IsOfLibrary, IsReadFrom, IsReadFault, FetchesAtMost};
 ghost use Rattle.cd_read.specs.Formed.{IsFormed, IsBounded};
 
 use crate::labels::{Seen, Wanted, innermost};
@@ -13,6 +13,7 @@ use crate::state::{Next, State, all_occurred, fetch, last, read_next};
 use cd_list::{Copied, Sequence, Text};
 use cd_outside::Library;
 use cd_parse::{Labels, Progress, Stage};
+use cd_shared::SharedText;
 use cd_symbols::Symbols;
 use std::alloc::{AllocError, Global};
 
@@ -50,6 +51,13 @@ fn started(alloc: Global) -> Progress
     }
 }
 
+/// A path that the inputs of its file share.
+fn shared(alloc: Global, path: &Text) -> Result<SharedText, AllocError>
+    ensures { IfOk result (λ file. file ≡ path.now) }
+{
+    SharedText::new(alloc, path.copy(alloc)?)
+}
+
 /// Reads the file whose path is the last of `opens`, which are the paths of the open files. It recurs no more
 /// than 16 files deep.
 #[cycle(files)]
@@ -73,6 +81,7 @@ fn read_file<L: Library>(
         → CameFile i (L.holds library.old) state.old state.new (L.told library.old) (L.told library.new) result }
 {
     let bytes = fetch(alloc, library, state, last(opens.as_slice()))?;
+    let file = shared(alloc, last(opens.as_slice()))?;
     let mut progress = started(alloc);
     read_statements(
         alloc,
@@ -81,11 +90,12 @@ fn read_file<L: Library>(
         bytes.as_slice(),
         &mut progress,
         opens,
+        &file,
         wanted,
     )
 }
 
-/// Reads the statements of a file from a place on.
+/// Reads the statements of a file from a place on. `file` is its path.
 #[cycle(files)]
 fn read_statements<L: Library>(
     alloc: Global,
@@ -94,6 +104,7 @@ fn read_statements<L: Library>(
     bytes: &[u8],
     progress: &mut Progress,
     opens: &mut Sequence<Text>,
+    file: &SharedText,
     wanted: &Wanted,
 ) -> Result<(), ReadFault>
     requires some { 0 < length opens.old }
@@ -102,6 +113,7 @@ fn read_statements<L: Library>(
     requires bytes { length bytes.now ≤ 4194304 }
     requires within { progress.old.at ≤ length bytes.now }
     requires begin { progress.old.stage ≡ Stage.Begin }
+    requires file { slice_get opens.old (length opens.old - 1) ≡ Some file.now }
     ensures used { OnOk result (state.new.used ≤ 4194304) }
     ensures same { OnOk result (opens.new ≡ opens.old) }
     ensures later { L.faults library.old ≤ L.faults library.new }
@@ -113,7 +125,15 @@ fn read_statements<L: Library>(
         (L.told library.old) (L.told library.new) result }
 {
     loop {
-        match read_next(alloc, state, bytes, progress, opens.as_slice(), wanted)? {
+        match read_next(
+            alloc,
+            state,
+            bytes,
+            progress,
+            opens.as_slice(),
+            file,
+            wanted,
+        )? {
             Next::Over => return Ok(()),
             Next::Clause => {}
             Next::Include(path, only) => {
@@ -191,29 +211,6 @@ pub fn read_problem<L: Library>(
     ensures capped { FetchesAtMost 4194305 (L.told library.old) (L.told library.new) }
     ensures stays { (p : List ℕ) → L.holds library.new p ≡ L.holds library.old p }
 {
-    match read_counted(alloc, library, path) {
-        Ok((problem, _bytes)) => Ok(problem),
-        Err(fault) => Err(fault),
-    }
-}
-
-/// Reads the problem of the file with this path as [`read_problem`] does, and says how many bytes the files
-/// have that were fetched for it. Each of its symbols takes two of them.
-pub fn read_counted<L: Library>(
-    alloc: Global,
-    library: &mut L,
-    path: &Text,
-) -> Result<(Problem, u64), ReadFault>
-    ensures problem { IfOk result (λ r. IsReadCounted path.now (L.holds library.old) (L.told library.old) (L.told library.new) r.0 r.1) }
-    ensures symbols { IfOk result (λ r. 2 * length r.0.symbols ≤ r.1) }
-    ensures formed { IfOk result (λ r. IsFormed r.0) }
-    ensures bounded { IfOk result (λ r. IsBounded r.0) }
-    ensures fault { IfErr result (IsReadFault path.now (L.holds library.old) (L.told library.old) (L.told library.new)) }
-    ensures library { IfErr result (λ f. IsOfLibrary f → Rose (L.faults library.old) (L.faults library.new)) }
-    ensures later { L.faults library.old ≤ L.faults library.new }
-    ensures capped { FetchesAtMost 4194305 (L.told library.old) (L.told library.new) }
-    ensures stays { (p : List ℕ) → L.holds library.new p ≡ L.holds library.old p }
-{
     let mut state = State {
         used: 0,
         symbols: Symbols::new(alloc),
@@ -229,5 +226,5 @@ pub fn read_counted<L: Library>(
         symbols: state.symbols,
         inputs: state.inputs,
     };
-    Ok((problem, state.used))
+    Ok(problem)
 }

@@ -18,6 +18,7 @@ use cd_parse::{
     Found, Label, Labels, PartFault, Progress, Role, Stage, Statement, TreeLiterals, What,
     read_part,
 };
+use cd_shared::SharedText;
 use cd_symbols::Symbols;
 use std::alloc::{AllocError, Global};
 
@@ -88,19 +89,19 @@ pub fn fetch<L: Library>(
 fn add_input(
     alloc: Global,
     state: &mut State,
-    path: &Text,
+    file: &SharedText,
     label: &Label,
     role: Role,
-    literals: &TreeLiterals,
+    literals: TreeLiterals,
 ) -> Result<(), PassFault>
-    requires within { AreWithin literals.now }
-    ensures { CameInput path.now label.now role literals.now state.old state.new result }
+    requires within { AreWithin literals }
+    ensures { CameInput file.now label.now role literals state.old state.new result }
 {
-    let clause = clause_of(alloc, &mut state.symbols, literals.as_slice())?;
+    let clause = clause_of(alloc, &mut state.symbols, literals)?;
     // Asked for what its contract says: no symbol stands twice, and there are at most 65,535.
     let _count = state.symbols.len();
     let label = label.copy(alloc)?;
-    let file = path.copy(alloc)?;
+    let file = file.share()?;
     state.inputs.push(Input {
         label,
         role,
@@ -114,24 +115,26 @@ fn add_input(
 fn add_clause(
     alloc: Global,
     state: &mut State,
-    path: &Text,
+    file: &SharedText,
     wanted: &Wanted,
     label: Label,
     role: Role,
     literals: TreeLiterals,
     place: u32,
 ) -> Result<Next, ReadFault>
-    ensures { (i : Inside) → path.now ≡ i.path → Wants wanted.now i.lists
+    ensures { (i : Inside) → file.now ≡ i.path → Wants wanted.now i.lists
         → CameClause i label role literals place state.old state.new result }
 {
     if !is_within(literals.as_slice()) {
-        return Err(wrong(alloc, What::TooLarge, path, place));
+        return Err(wrong(alloc, What::TooLarge, file.text(), place));
     }
     let chosen = wanted.wants(&label);
     if chosen {
-        match add_input(alloc, state, path, &label, role, &literals) {
+        match add_input(alloc, state, file, &label, role, literals) {
             Ok(()) => {}
-            Err(PassFault::Full) => return Err(wrong(alloc, What::TooLarge, path, place)),
+            Err(PassFault::Full) => {
+                return Err(wrong(alloc, What::TooLarge, file.text(), place));
+            }
             Err(PassFault::Memory) => return Err(ReadFault::Memory),
         }
     }
@@ -163,19 +166,21 @@ fn part_fault(alloc: Global, fault: PartFault, path: &Text) -> ReadFault
     }
 }
 
-/// Reads the next statement, and adds its clause where it is one.
+/// Reads the next statement, and adds its clause where it is one. `file` is the path of the file that is read.
 pub fn read_next(
     alloc: Global,
     state: &mut State,
     bytes: &[u8],
     progress: &mut Progress,
     opens: &[Text],
+    file: &SharedText,
     wanted: &Wanted,
 ) -> Result<Next, ReadFault>
     requires few { length bytes.now < 2 ^ 32 }
     requires within { progress.old.at ≤ length bytes.now }
     requires begin { progress.old.stage ≡ Stage.Begin }
     requires some { 0 < length opens.now }
+    requires file { slice_get opens.now (length opens.now - 1) ≡ Some file.now }
     ensures { (i : Inside) → opens.now ≡ all_open i → Wants wanted.now i.lists
         → Nexts i bytes.now progress.old.at progress.new state.old state.new result }
 {
@@ -195,16 +200,7 @@ pub fn read_next(
     match statement {
         Statement::Clause(label, role, literals) => {
             let place = first_place(progress.starts.as_slice());
-            add_clause(
-                alloc,
-                state,
-                last(opens),
-                wanted,
-                label,
-                role,
-                literals,
-                place,
-            )
+            add_clause(alloc, state, file, wanted, label, role, literals, place)
         }
         Statement::Include(path, only) => Ok(Next::Include(path, only)),
     }

@@ -5,10 +5,9 @@ use Rattle.cd_clause.specs.declared.Atom.{Atom}
 use Rattle.cd_clause.specs.declared.Clause.{Clause}
 use Rattle.cd_clause.specs.Places.{HasSides}
 use Rattle.cd_kbo.specs.declared.order.Order.{Order}
-use Rattle.cd_rewrite.specs.declared.equations.Turn.TheVariants.{Never}
 use Rattle.cd_rewrite.specs.declared.equations.Equation.{Equation}
 use Rattle.cd_rewrite.specs.Reduction.{Spot, Lowers, ReducesAt, Reduces}
-use Rattle.cd_rewrite.specs.Equations.{clause_of, Falls, IsTurn, IsReady}
+use Rattle.cd_rewrite.specs.Equations.{clause_of, Falls, IsReady}
 use Rattle.cd_rewrite.proofs.Turns.{lowers_parts}
 
 -- no place of a side
@@ -28,21 +27,15 @@ sides_unwanted o e c left right red =
     ]
 
 pub sides_idle : (o : Order) (e c : Clause) (eq : Equation) (l r : Bool) → IsReady o eq → clause_of eq ≡ e →
-    ((l ≡ false) ⊎ (eq.from_left ≡ Never)) → ((r ≡ false) ⊎ (eq.from_right ≡ Never)) →
+    ((l ≡ false) ⊎ (eq.from_left ≡ false)) → ((r ≡ false) ⊎ (eq.from_right ≡ false)) →
     (l ≡ false → NoneFrom o e c 0) → (r ≡ false → NoneFrom o e c 1) → Reduces o e c → ⊥
 sides_idle o e c eq l r ready is left right none_left none_right red =
     by (lowers_parts o eq.left.now eq.right.now red.0.side red.1.0 red.1.1.old red.1.1.new
     (subst (λ d. Lowers o d red.0.side red.1.0 red.1.1.old red.1.1.new) (sym is) red.1.1.lowers)) left right
   where
-    from : ((l ≡ false) ⊎ (eq.from_left ≡ Never)) → red.0.side ≡ 0 → ((turn : IsTurn o eq.left.now eq.right.now Never) → ⊥) → ⊥
-    from (inl out) here falls = none_left out red.0 here red.1
-    from (inr never) here falls = falls (subst (IsTurn o eq.left.now eq.right.now) never ready.left)
-
-    from_other : ((r ≡ false) ⊎ (eq.from_right ≡ Never)) → red.0.side ≡ 1 → ((turn : IsTurn o eq.right.now eq.left.now Never) → ⊥) → ⊥
-    from_other (inl out) here falls = none_right out red.0 here red.1
-    from_other (inr never) here falls = falls (subst (IsTurn o eq.right.now eq.left.now) never ready.right)
-
     by : ((red.0.side ≡ 0) × Falls o eq.left.now eq.right.now red.1.0 red.1.1.old) ⊎ ((red.0.side ≡ 1) × Falls o eq.right.now eq.left.now red.1.0 red.1.1.old) →
-        ((l ≡ false) ⊎ (eq.from_left ≡ Never)) → ((r ≡ false) ⊎ (eq.from_right ≡ Never)) → ⊥
-    by (inl p) a b = from a p.0 (λ turn. turn red.1.1.old red.1.0 p.1)
-    by (inr p) a b = from_other b p.0 (λ turn. turn red.1.1.old red.1.0 p.1)
+        ((l ≡ false) ⊎ (eq.from_left ≡ false)) → ((r ≡ false) ⊎ (eq.from_right ≡ false)) → ⊥
+    by (inl p) (inl out) b = none_left out red.0 p.0 red.1
+    by (inl p) (inr never) b = ready.left never red.1.1.old red.1.0 p.1
+    by (inr p) a (inl out) = none_right out red.0 p.0 red.1
+    by (inr p) a (inr never) = ready.right never red.1.1.old red.1.0 p.1

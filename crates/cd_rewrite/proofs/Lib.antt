@@ -7,6 +7,8 @@ pub mod Reducts
 pub mod Sound
 pub mod Agree
 pub mod Matched
+pub mod Variables
+pub mod Lowered
 pub mod Fitting
 pub mod Deciding
 pub mod Idle

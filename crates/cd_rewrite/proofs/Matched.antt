@@ -48,7 +48,7 @@ subterm_le m grows (i ∷ path) t u e =
     omega (arith, subterm_le m grows path s.arg u s.rest, greatest_at m s.args i s.arg s.here, grows s.symbol s.args, ap m s.is)
 
 -- the value of a variable that occurs
-values_le : (m : Term → ℕ) (g : ℕ → Term) (k : ℕ) (ts : List Term) → Each (λ t. occurs k t ≡ true → m (g k) ≤ m (substituted g t)) ts →
+pub values_le : (m : Term → ℕ) (g : ℕ → Term) (k : ℕ) (ts : List Term) → Each (λ t. occurs k t ≡ true → m (g k) ≤ m (substituted g t)) ts →
     list_any (λ b. b) (map (occurs k) ts) ≡ true → m (g k) ≤ greatest (map m (map (substituted g) ts))
 values_le m g k [] each o = absurd (cc)
 values_le m g k (t ∷ ts) each o = elim (or_cases (occurs k t) (list_any (λ b. b) (map (occurs k) ts)) o) [

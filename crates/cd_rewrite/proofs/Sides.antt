@@ -7,15 +7,16 @@ use Rattle.std.proofs.lemmas.List.Folds.{list_any_at}
 use Rattle.cd_list.proofs.Numbers.{equal_itself}
 use Rattle.cd_term.specs.declared.Term.{Term}
 use Rattle.cd_term.specs.declared.Term.TheVariants.{Var, App}
-use Rattle.cd_term.specs.Terms.{occurs, substituted}
+use Rattle.cd_term.specs.Terms.{bound_of, occurs, substituted}
 use Rattle.cd_term.proofs.Equations.{occurs-Var, occurs-App}
 use Rattle.cd_clause.specs.declared.Atom.TheVariants.{Equal}
 use Rattle.cd_clause.specs.declared.Literal.{Literal}
 use Rattle.cd_clause.specs.declared.Clause.{Clause}
+use Rattle.cd_clause.specs.Clauses.{variable_bound_of}
 use Rattle.cd_clause.specs.Places.{signed}
 use Rattle.cd_kbo.specs.declared.order.Order.{Order}
 use Rattle.cd_kbo.specs.Kbo.{Greater}
-use Rattle.cd_kbo.proofs.Stable.{greater_stable, greater_has_variables, never_both}
+use Rattle.cd_kbo.proofs.Stable.{greater_stable, never_both}
 use Rattle.cd_rewrite.specs.Reduction.{HasVariablesOf}
 use Rattle.cd_rewrite.specs.Equations.{equation_clause, Falls}
 
@@ -79,13 +80,6 @@ pub never_falls : (o : Order) (from to : Term) → Greater o to from → (t : Te
 never_falls o from to up t g falls =
     never_both o t (substituted g to) falls.2 (subst (Greater o (substituted g to)) falls.1 (greater_stable o g to from up))
 
-pub never_covered : (o : Order) (from to : Term) (b : Bool) → (IsTrue b ↔ HasVariablesOf from to) → b ≡ false → (t : Term) (g : ℕ → Term) → Falls o from to g t → ⊥
-never_covered o from to b test out t g falls =
-    let was : b ≡ true = test.1 falls.0 in let both : true ≡ false = sym was ∙ out in absurd (cc)
-
-pub always_falls : (o : Order) (from to : Term) → Greater o from to → HasVariablesOf from to × Greater o from to
-always_falls o from to down = (greater_has_variables o from to down, down)
-
 -- a clause of one literal
 one_literal : (ls : List Literal) (l : Literal) → length ls ≡ 1 → l ≡ get_or ls 0 l → ls ≡ l ∷ []
 one_literal [] l e at = absurd (omega (arith, e))
@@ -118,3 +112,8 @@ pub clause_is : (e : Clause) (left right s t : Term) → e.literals ≡ signed t
 clause_is e left right s t is same alike =
     let whole : signed true (Equal left right) ∷ [] ≡ e.literals = ap (λ x. signed true (Equal x right) ∷ []) same ∙ ap (λ x. signed true (Equal s x) ∷ []) alike ∙ sym is in
     λ i. record { literals = whole i }
+
+-- the variables of the sides are below the bound of the clause
+pub equation_bounds : (e : Clause) (s t : Term) (n : ℕ) → e.literals ≡ signed true (Equal s t) ∷ [] → n ≡ variable_bound_of e → (bound_of s ≤ n) × (bound_of t ≤ n)
+equation_bounds e s t n is count =
+    let bound : n ≡ variable_bound_of (equation_clause s t) = count ∙ ap (λ ls. variable_bound_of (record { literals = ls })) is in (omega arith, omega arith)

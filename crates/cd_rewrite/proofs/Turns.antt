@@ -24,9 +24,7 @@ use Rattle.cd_kbo.proofs.Stable.{greater_stable}
 use Rattle.cd_unify.specs.Unifiers.{Fits}
 use Rattle.cd_unify.specs.Bindings.{Binds, TermBinds}
 use Rattle.cd_rewrite.specs.Reduction.{IsRule, HasVariablesOf, Lowers}
-use Rattle.cd_rewrite.specs.declared.equations.Turn.{Turn}
-use Rattle.cd_rewrite.specs.declared.equations.Turn.TheVariants.{Never, Compared, Always}
-use Rattle.cd_rewrite.specs.Equations.{equation_clause, Falls, IsTurn, LowersTerm}
+use Rattle.cd_rewrite.specs.Equations.{equation_clause, Falls, LowersTerm}
 use Rattle.cd_rewrite.specs.Walks.{IsLowering}
 
 sums : (f g : Term → ℕ) (ts : List Term) → Each (λ t. f t ≤ g t) ts → sum_by f ts ≤ sum_by g ts
@@ -39,7 +37,7 @@ weight_large o = ind (λ t. size_of t ≤ weight_of o t)
     (λ n. omega (arith, weight_of-Var o n, size_of-Var n))
     (λ f ts h. omega (arith, weight_of-App o f ts, size_of-App f ts, sums size_of (weight_of o) ts h, o.in_range.positive f))
 
-greater_weight : (o : Order) (s t : Term) → Greater o s t → weight_of o t ≤ weight_of o s
+pub greater_weight : (o : Order) (s t : Term) → Greater o s t → weight_of o t ≤ weight_of o s
 greater_weight o s t (by_weight _ _ c w) = omega (arith, w)
 greater_weight o s t (by_head _ _ f g ss ts c w p q h) = omega (arith, w)
 greater_weight o s t (by_argument _ _ a b c w d g) = omega (arith, w)
@@ -69,12 +67,6 @@ pub above_at : (o : Order) (old to new : Term) (s xs : List Term) (b : Bool) →
 above_at o old to new s xs b test built same =
     subst (λ u. IsTrue b ↔ Greater o old u) (built ∙ ap (λ ys. applied ys to) same) test
 
--- a side that isn't refused has the variables of the other one
-pub turn_covers : (o : Order) (from to : Term) (turn : Turn) → IsTurn o from to turn → (turn ≡ Never → ⊥) → HasVariablesOf from to
-turn_covers o from to Never known other = absurd (other refl)
-turn_covers o from to Compared known other = known
-turn_covers o from to Always known other = known.0
-
 -- matching
 pub no_match : (vs ws : List (Option Term)) (t u : Term) (r : Bool) → ((g : ℕ → Term) → Fits g vs) → Binds (TermBinds t u) vs ws r → r ≡ false →
     (g : ℕ → Term) → substituted g t ≡ u → ⊥
@@ -94,10 +86,11 @@ pub agreement : AgreementDecides
 agreement g h t = (substituted-agree g h t, λ same n o. agrees-substituted g h n t same o)
 
 -- the instance that was looked at isn't smaller
-pub no_fall : (o : Order) (from to t : Term) (s : List Term) (b : Bool) → applied s from ≡ t → (IsTrue b ↔ Greater o t (applied s to)) → b ≡ false →
-    (g : ℕ → Term) → Falls o from to g t → ⊥
+pub no_fall : (o : Order) (from to t : Term) (s : List Term) (b : Bool) → applied s from ≡ t →
+    (IsTrue b ↔ (HasVariablesOf from to × Greater o t (applied s to))) → b ≡ false → (g : ℕ → Term) → Falls o from to g t → ⊥
 no_fall o from to t s b is test out g falls =
-    let was : b ≡ true = test.1 (subst (Greater o t) (same_instance from to t g (value_of s) falls.0 agreement falls.1 is) falls.2) in
+    let was : b ≡ true =
+    test.1 (falls.0, subst (Greater o t) (same_instance from to t g (value_of s) falls.0 agreement falls.1 is) falls.2) in
     let both : true ≡ false = sym was ∙ out in absurd (cc)
 
 -- an instance of a greater side is greater

@@ -1,6 +1,6 @@
 -- What is known of the sides of an equation before any term is looked at.
 -- Beyond the headline: no clause of `prove` reaches this file.
-use Rattle.std.specs.Prelude.{ℕ, ◌≡◌, ◌≤◌, true, [], ◌∷◌}
+use Rattle.std.specs.Prelude.{ℕ, ◌≡◌, ◌≤◌, true, false, [], ◌∷◌}
 use Rattle.cd_term.specs.declared.Term.{Term}
 use Rattle.cd_term.specs.Terms.{substituted, bound_of}
 use Rattle.cd_clause.specs.declared.Atom.TheVariants.{Equal}
@@ -8,8 +8,6 @@ use Rattle.cd_clause.specs.declared.Clause.{Clause}
 use Rattle.cd_clause.specs.Places.{signed}
 use Rattle.cd_kbo.specs.declared.order.Order.{Order}
 use Rattle.cd_kbo.specs.Kbo.{Greater}
-use Rattle.cd_rewrite.specs.declared.equations.Turn.{Turn}
-use Rattle.cd_rewrite.specs.declared.equations.Turn.TheVariants.{Never, Compared, Always}
 use Rattle.cd_rewrite.specs.declared.equations.Equation.{Equation}
 use Rattle.cd_rewrite.specs.Reduction.{HasVariablesOf, Lowers}
 
@@ -24,18 +22,12 @@ clause_of eq = equation_clause eq.left.now eq.right.now
 abbrev pub Falls : Order → Term → Term → (ℕ → Term) → Term → Type 0
 Falls o from to g t = HasVariablesOf from to × (substituted g from ≡ t) × Greater o t (substituted g to)
 
--- what is known of a side: it reduces no term; or its instances have to be compared; or they are greater than those of
--- the other side
-abbrev pub IsTurn : Order → Term → Term → Turn → Type 0
-IsTurn o from to Never = (t : Term) (g : ℕ → Term) → ¬ Falls o from to g t
-IsTurn o from to Compared = HasVariablesOf from to
-IsTurn o from to Always = HasVariablesOf from to × Greater o from to
-
+-- the variables are counted, and a side that isn't tried lowers no term
 pub record IsReady (o : Order) (eq : Equation) : Type 0 where
   pub left_below : bound_of eq.left.now ≤ eq.variables
   pub right_below : bound_of eq.right.now ≤ eq.variables
-  pub left : IsTurn o eq.left.now eq.right.now eq.from_left
-  pub right : IsTurn o eq.right.now eq.left.now eq.from_right
+  pub left : eq.from_left ≡ false → (t : Term) (g : ℕ → Term) → ¬ Falls o eq.left.now eq.right.now g t
+  pub right : eq.from_right ≡ false → (t : Term) (g : ℕ → Term) → ¬ Falls o eq.right.now eq.left.now g t
 
 -- the equation lowers a term
 abbrev pub LowersTerm : Order → Clause → Term → Type 0

@@ -1,41 +1,29 @@
 //! Clauses that are one positive equation, and which of its sides can reduce a term.
 #![tactic(auto)]
 
-ghost use Rattle.std.specs.Prelude.{◌≡◌, ◌≤◌, ◌↔◌, ◌⊎◌, ◌∷◌, [], IsTrue, false, true, MatchOption};
+ghost use Rattle.std.specs.Prelude.{◌≡◌, ◌↔◌, ◌⊎◌, ◌∷◌, ℕ, [], IsTrue, false, true, MatchOption};
 ghost use Rattle.cd_term.specs.declared.Term.{Term};
-ghost use Rattle.cd_term.specs.Terms.{bound_of, occurs};
+ghost use Rattle.cd_term.specs.Terms.{occurs};
 ghost use Rattle.cd_clause.specs.declared.Atom.TheVariants.{Equal};
 ghost use Rattle.cd_clause.specs.Clauses.{variable_bound_of};
 ghost use Rattle.cd_clause.specs.Places.{signed};
 ghost use Rattle.cd_kbo.specs.Kbo.{Greater};
 ghost use Rattle.cd_kbo.specs.declared.order.Order.{Order};
 ghost use Rattle.cd_rewrite.specs.Reduction.{HasVariablesOf};
-ghost use Rattle.cd_rewrite.specs.Equations.{clause_of, IsTurn, IsReady};
-ghost use Rattle.cd_rewrite.specs.declared.equations.Turn.TheVariants.{Never};
+ghost use Rattle.cd_rewrite.specs.Equations.{clause_of, Falls, IsReady};
 
 use cd_clause::{Atom, Clause};
 use cd_kbo::{Order, greater};
 use cd_term::{Term, size};
 
-/// Whether the instances of a side can be greater than those of the other side.
-#[derive(Clone, Copy, Debug)]
-pub enum Turn {
-    /// None is, or the other side has a variable of its own.
-    Never,
-    /// Each has to be compared.
-    Compared,
-    /// All are.
-    Always,
-}
-
-/// An equation, how many variables it has, and what is known of its sides.
+/// An equation, how many variables it has, and from which of its sides it may lower a term.
 #[derive(Clone, Copy)]
 pub struct Equation<'e> {
     pub left: &'e Term,
     pub right: &'e Term,
     pub variables: u64,
-    pub from_left: Turn,
-    pub from_right: Turn,
+    pub from_left: bool,
+    pub from_right: bool,
 }
 
 /// Whether a variable occurs in a term.
@@ -73,7 +61,7 @@ pub fn has_variables_of(from: &Term, to: &Term) -> bool
 }
 
 /// Whether a term is known to be greater than another one. Terms of more than 65,535 symbols aren't compared.
-fn is_falling(from: &Term, to: &Term, order: &Order) -> bool
+pub fn is_falling(from: &Term, to: &Term, order: &Order) -> bool
     ensures { IsTrue result → Greater order.now from.now to.now }
 {
     if size(from) > 65535 {
@@ -85,49 +73,14 @@ fn is_falling(from: &Term, to: &Term, order: &Order) -> bool
     greater(from, to, order)
 }
 
-/// What is known of a side where neither is known to be greater.
-fn compared(from: &Term, to: &Term) -> Turn
-    ensures { (o : Order) → IsTurn o from.now to.now result }
+/// False only where a side lowers no term: a variable isn't greater than a term that it occurs in, whatever stands for
+/// it. Most sides that are variables are, and each of them matches every term.
+pub fn may_lower(from: &Term, to: &Term) -> bool
+    ensures { result ≡ false → (o : Order) (t : Term) (g : ℕ → Term) → ¬ Falls o from.now to.now g t }
 {
-    if has_variables_of(from, to) {
-        return Turn::Compared;
-    }
-    Turn::Never
-}
-
-/// An equation of two sides, with what the order says of them.
-fn ordered<'e>(left: &'e Term, right: &'e Term, variables: u64, order: &Order) -> Equation<'e>
-    requires left { bound_of left.now ≤ variables }
-    requires right { bound_of right.now ≤ variables }
-    ensures left { result.left.now ≡ left.entry.now }
-    ensures right { result.right.now ≡ right.entry.now }
-    ensures variables { result.variables ≡ variables }
-    ensures ready { IsReady order.now result }
-{
-    if is_falling(left, right, order) {
-        return Equation {
-            left,
-            right,
-            variables,
-            from_left: Turn::Always,
-            from_right: Turn::Never,
-        };
-    }
-    if is_falling(right, left, order) {
-        return Equation {
-            left,
-            right,
-            variables,
-            from_left: Turn::Never,
-            from_right: Turn::Always,
-        };
-    }
-    Equation {
-        left,
-        right,
-        variables,
-        from_left: compared(left, right),
-        from_right: compared(right, left),
+    match from {
+        Term::Var(n) => !occurs_in(*n, to),
+        Term::App(_, _) => true,
     }
 }
 
@@ -150,13 +103,13 @@ pub fn sides_of_one(e: &Clause) -> Option<(&Term, &Term)>
     }
 }
 
-/// The equation that a clause of so many variables is, with what the order says of its sides.
+/// The equation that a clause of so many variables is, with the sides from which it may lower a term. The order isn't
+/// asked yet.
 pub fn equation_of<'e>(
     e: &'e Clause,
     left: &'e Term,
     right: &'e Term,
     variables: u64,
-    order: &Order,
 ) -> Equation<'e>
     requires sides { e.now.literals ≡ signed true (Equal left.now right.now) ∷ [] }
     requires count { variables ≡ variable_bound_of e.now }
@@ -164,21 +117,23 @@ pub fn equation_of<'e>(
     ensures left { result.left.now ≡ left.entry.now }
     ensures right { result.right.now ≡ right.entry.now }
     ensures variables { result.variables ≡ variable_bound_of e.entry.now }
-    ensures ready { IsReady order.now result }
+    ensures ready { (o : Order) → IsReady o result }
 {
     let _clause = e;
-    ordered(left, right, variables, order)
+    let from_left = may_lower(left, right);
+    let from_right = may_lower(right, left);
+    Equation {
+        left,
+        right,
+        variables,
+        from_left,
+        from_right,
+    }
 }
 
-/// Whether a side isn't wanted, or can't reduce any term.
-pub fn is_idle(wanted: bool, turn: Turn) -> bool
-    ensures { IsTrue result → (wanted ≡ false) ⊎ (turn ≡ Never) }
+/// Whether a side isn't wanted, or lowers no term.
+pub fn is_idle(wanted: bool, may_lower: bool) -> bool
+    ensures { IsTrue result → (wanted ≡ false) ⊎ (may_lower ≡ false) }
 {
-    if !wanted {
-        return true;
-    }
-    match turn {
-        Turn::Never => true,
-        _ => false,
-    }
+    !wanted || !may_lower
 }

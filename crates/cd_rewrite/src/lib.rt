@@ -10,5 +10,5 @@ mod reducing;
 mod rewriting;
 mod walks;
 
-pub use equations::{has_variables_of, sides_of_one};
+pub use equations::{has_variables_of, may_lower, sides_of_one};
 pub use reducing::{ReductAt, reduces, reduces_from, reduct};

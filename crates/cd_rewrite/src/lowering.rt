@@ -1,14 +1,15 @@
 //! A side of an equation that lowers a term.
 #![tactic(auto)]
 
-ghost use Rattle.std.specs.Prelude.{◌≡◌, ◌≤◌, ℕ, length, IfOk, MatchOption, IsTrue, ◌↔◌};
+ghost use Rattle.std.specs.Prelude.{◌≡◌, ◌≤◌, ℕ, length, IfOk, MatchOption, IsTrue, false, ◌↔◌};
 ghost use Rattle.cd_term.specs.declared.Term.{Term};
 ghost use Rattle.cd_term.specs.Terms.{size_of, bound_of, substituted, applied, value_of};
 ghost use Rattle.cd_kbo.specs.Kbo.{Greater};
-ghost use Rattle.cd_rewrite.specs.Equations.{clause_of, Falls, IsTurn, IsReady, LowersTerm};
+ghost use Rattle.cd_rewrite.specs.Reduction.{HasVariablesOf};
+ghost use Rattle.cd_rewrite.specs.Equations.{clause_of, Falls, IsReady, LowersTerm};
 ghost use Rattle.cd_rewrite.specs.Walks.{IsLowering};
 
-use crate::equations::{Equation, Turn};
+use crate::equations::{Equation, has_variables_of, is_falling};
 use cd_kbo::{Order, Side, greater, weight};
 use cd_term::{Subst, Term, measure_applied, substitute};
 use cd_unify::{Bindings, may_match};
@@ -22,7 +23,7 @@ pub struct Lowering {
     pub subst: Subst,
 }
 
-/// The substitution by which a term is an instance of another one.
+/// The substitution by which a term is an instance of another one. Most aren't by their symbols, which takes no memory.
 fn match_term(
     alloc: Global,
     general: &Term,
@@ -63,10 +64,38 @@ fn is_above_instance(
     Ok(greater(old, &new, order))
 }
 
+/// Whether the other side has no variable of its own, and its instance is smaller than the term that is the instance of
+/// a side. Where the order knows one of the sides to be greater, so are its instances, and none is built.
+fn is_lowered(
+    alloc: Global,
+    from: &Term,
+    to: &Term,
+    t: &Term,
+    s: &Subst,
+    order: &Order,
+) -> Result<bool, AllocError>
+    requires small { size_of t.now ≤ 65535 }
+    requires matched { applied s.now from.now ≡ t.now }
+    ensures { IfOk result (λ b. IsTrue b ↔ (HasVariablesOf from.now to.now × Greater order.now t.now (applied s.now to.now))) }
+{
+    if is_falling(from, to, order) {
+        return Ok(true);
+    }
+    if is_falling(to, from, order) {
+        return Ok(false);
+    }
+    if !has_variables_of(from, to) {
+        return Ok(false);
+    }
+    let above = is_above_instance(alloc, t, to, s, order)?;
+    Ok(above)
+}
+
 /// The substitution by which a term is an instance of a side that is greater than the same instance of the other side.
+/// The order is asked only where the term is an instance.
 fn try_side(
     alloc: Global,
-    turn: Turn,
+    may_lower: bool,
     from: &Term,
     to: &Term,
     variables: u64,
@@ -75,20 +104,17 @@ fn try_side(
 ) -> Result<Option<Subst>, AllocError>
     requires small { size_of t.now ≤ 65535 }
     requires below { bound_of from.now ≤ variables }
-    requires known { IsTurn order.now from.now to.now turn }
+    requires known { may_lower ≡ false → (u : Term) (g : ℕ → Term) → ¬ Falls order.now from.now to.now g u }
     ensures { IfOk result (λ o. MatchOption o ((g : ℕ → Term) → ¬ Falls order.now from.now to.now g t.now)
         (λ s. (length s ≡ variables) × Falls order.now from.now to.now (value_of s) t.now)) }
 {
-    if let Turn::Never = turn {
+    if !may_lower {
         return Ok(None);
     }
     let Some(subst) = match_term(alloc, from, t, variables)? else {
         return Ok(None);
     };
-    if let Turn::Always = turn {
-        return Ok(Some(subst));
-    }
-    if !is_above_instance(alloc, t, to, &subst, order)? {
+    if !is_lowered(alloc, from, to, t, &subst, order)? {
         return Ok(None);
     }
     Ok(Some(subst))

@@ -16,9 +16,9 @@ use cd_kbo::Order;
 use cd_term::{Path, Subst, TermFault};
 use std::alloc::{AllocError, Global};
 
-/// Whether clause `e` is one positive equation that reduces clause `c` somewhere. The order is asked of the sides once,
-/// so that a smaller one is sought nowhere, and of an instance only where neither is greater; most subterms are refused
-/// by their symbols, without memory.
+/// Whether clause `e` is one positive equation that reduces clause `c` somewhere. Most subterms are refused by their
+/// symbols, without memory and without the order. Where a side matches a subterm the order is asked of the two sides,
+/// and of the instances only where neither side is greater.
 pub fn reduces(alloc: Global, e: &Clause, c: &Clause, order: &Order) -> Result<bool, AllocError>
     requires { clause_size c.now ≤ 65535 }
     ensures { IfOk result (λ b. IsTrue b ↔ Reduces order.now e.now c.now) }
@@ -49,7 +49,7 @@ pub fn reduces_from(
     let Some((left, right)) = sides_of_one(e) else {
         return Ok(false);
     };
-    let eq = equation_of(e, left, right, count, order);
+    let eq = equation_of(e, left, right, count);
     if is_idle(from_left, eq.from_left) && is_idle(from_right, eq.from_right) {
         return Ok(false);
     }
@@ -89,7 +89,7 @@ pub fn reduct(
     let Some((left, right)) = sides_of_one(e) else {
         return Ok(None);
     };
-    let eq = equation_of(e, left, right, variables(e), order);
+    let eq = equation_of(e, left, right, variables(e));
     let Some(place) = first_place(alloc, &eq, c, order)? else {
         return Ok(None);
     };

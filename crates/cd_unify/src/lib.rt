@@ -7,6 +7,7 @@
 
 mod bindings;
 mod classes;
+mod direct;
 mod graph;
 pub mod laws;
 mod matching;

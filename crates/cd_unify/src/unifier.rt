@@ -7,6 +7,7 @@ ghost use Rattle.cd_term.specs.Terms.{bound_of, greatest, AreWithin};
 ghost use Rattle.cd_unify.specs.Unifiers.{raised, IsMgu, IsUnifierOrNone};
 
 use crate::classes::singles;
+use crate::direct::{Direct, unify_directly};
 use crate::normal::normalized;
 use crate::solved::solve_classes;
 use crate::trees::{build_all, measure_nodes};
@@ -47,6 +48,30 @@ pub fn mgu(alloc: Global, left: &Args, right: &Args, vars: u32) -> Result<Option
 /// copied.
 /// Recurs to the depth of its terms: see 'How deep terms may be' in docs/ARCHITECTURE.md.
 pub fn mgu_apart(
+    alloc: Global,
+    left: &[Term],
+    right: &[Term],
+    up: u32,
+    vars: u32,
+) -> Result<Option<Subst>, TermFault>
+    requires as_many { length left.now ≡ length right.now }
+    requires left { greatest (map bound_of left.now) ≤ vars }
+    requires right { greatest (map bound_of (map (raised up) right.now)) ≤ vars }
+    ensures answer { IfOk result (IsUnifierOrNone vars left.now (map (raised up) right.now)) }
+    ensures within { IfOk result (λ o. IfSome o (AreWithin 65535 1000)) }
+    ensures out_of_bounds { result ≡ Err TermFault.OutOfBounds →
+        (s : List Term) × IsMgu vars left.now (map (raised up) right.now) s × ¬ AreWithin 65535 1000 s }
+{
+    match unify_directly(alloc, left, right, up, vars) {
+        Err(_) => Err(TermFault::Memory),
+        Ok(Direct::Refuted) => Ok(None),
+        Ok(Direct::Unified(subst)) => Ok(Some(subst)),
+        Ok(Direct::Undecided) => mgu_by_classes(alloc, left, right, up, vars),
+    }
+}
+
+/// The same by classes of nodes, which decide it always.
+fn mgu_by_classes(
     alloc: Global,
     left: &[Term],
     right: &[Term],

@@ -1,4 +1,4 @@
-use Rattle.std.proofs.Common.{◌≡◌, sym, subst, Option, List, ℕ}
+use Rattle.std.proofs.Common.{sym, subst, Option, List, ℕ}
 use Rattle.std.specs.Prelude.{IfOk}
 use Rattle.cd_checktop.specs.Checked.{IsChecked}
 use Rattle.cd_checktop.proofs.Telling.{few_none}

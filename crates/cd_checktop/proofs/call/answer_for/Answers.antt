@@ -1,4 +1,3 @@
-use Rattle.std.proofs.Common.{sym}
 use Rattle.std.proofs.lemmas.Result.{IfOk-weaker}
 use Rattle.cd_checktop.proofs.Telling.{checked, faulty, of_library, first_answer, rose_later, few, few_first}
 use Rattle.cd_checktop.proofs.call.answer_for.Goals as goal

@@ -1,26 +1,11 @@
-use Rattle.std.proofs.Common.{refl}
-use Rattle.cd_clause.proofs.TidiedLemmas.{answer_ground, answer_none, answer_differs, answer_passed, passed_more}
+use Rattle.std.proofs.Common.{subst}
+use Rattle.cd_clause.specs.Tidiness.{IsClearFrom}
 use Rattle.cd_clause.proofs.tidiness.is_tidied.Goals as goal
 
-pub returns-then-count-eq0 : goal.returns-then-count-eq0
-returns-then-count-eq0 c =
-    answer_ground c.args.c.now c.args.d.now _ _ _ _ c.as_slice-literals.ensures c.as_slice-others.ensures c.variables-count.ensures
-    c.if-count-eq0.true c.are_alike.ensures
+pub is_tidied_to-requires-clause-rest : goal.is_tidied_to-requires-clause-rest
+is_tidied_to-requires-clause-rest c =
+    subst (λ clear. IsClearFrom clear c.args.c.now.literals) c.if-clear-eq0.true
+    (subst (IsClearFrom c.clear_from-clear.result) c.as_slice.ensures c.clear_from-clear.ensures)
 
-pub returns-in_default : goal.returns-in_default
-returns-in_default c =
-    answer_none c.args.c.now c.args.d.now _ _ _ _ c.as_slice-literals.ensures c.as_slice-others.ensures c.variables-count.ensures
-    c.loop-n-test.true c.in_default.ensures
-
-pub returns-then-not-are_alike : goal.returns-then-not-are_alike
-returns-then-not-are_alike c =
-    answer_differs c.args.c.now c.args.d.now _ _ _ _ _ c.as_slice-literals.ensures c.as_slice-others.ensures c.variables-count.ensures
-    c.loop-n-test.true c.in-Some.ensures c.if-not-are_alike.ensures
-
-pub loop-n-preserved : goal.loop-n-preserved
-loop-n-preserved c = passed_more _ _ _ _ c.loop-n.invariant c.in-Some.ensures (c.if-not-are_alike.ensures.0 refl)
-
-pub returns : goal.returns
-returns c =
-    answer_passed c.args.c.now c.args.d.now _ _ _ _ c.as_slice-literals.ensures c.as_slice-others.ensures c.variables-count.ensures
-    c.if-count-eq0.false c.loop-n-test.false c.loop-n.invariant
+pub is_tidied_marked-requires : goal.is_tidied_marked-requires
+is_tidied_marked-requires c = subst (IsClearFrom c.clear_from-clear.result) c.as_slice.ensures c.clear_from-clear.ensures

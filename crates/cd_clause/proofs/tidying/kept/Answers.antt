@@ -1,6 +1,6 @@
 use Rattle.std.proofs.Common.{refl, sym, ◌∙◌}
 use Rattle.std.proofs.lemmas.Bool.{false≢true}
-use Rattle.cd_clause.proofs.CodeLemmas.{none_met, met_next}
+use Rattle.cd_clause.proofs.CodeLemmas.{met_next}
 use Rattle.cd_clause.proofs.KeptLemmas.{kept_in, kept_out, kept_end}
 use Rattle.cd_clause.proofs.tidying.kept.Goals as goal
 

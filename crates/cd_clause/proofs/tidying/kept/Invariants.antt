@@ -1,6 +1,5 @@
 use Rattle.std.proofs.Common.{take}
 use Rattle.cd_clause.specs.Codes.{AreMet}
-use Rattle.cd_clause.specs.declared.Literal.{Literal}
 use Rattle.cd_clause.proofs.KeptLemmas.{Completes}
 use Rattle.cd_clause.proofs.tidying.kept.Given as goal
 

@@ -2,5 +2,5 @@ use Rattle.cd_contract.specs.Hits.{Contracting}
 use Rattle.cd_contract.proofs.Hitting.{Answers}
 use Rattle.cd_contract.proofs.contracting.first_contracting.Given as goal
 
-abbrev pub invariant-loop-kept : goal.invariant-loop-kept
-invariant-loop-kept l = Answers (Contracting l.order l.how l.c l.name) l.held l.kept-index
+abbrev pub invariant-loop-i : goal.invariant-loop-i
+invariant-loop-i l = Answers (Contracting l.order l.how l.c l.name) l.held l.i

@@ -1,13 +1,9 @@
-use Rattle.std.proofs.Common.{ℕ, [], ◌++◌, ap, sym, arith, append-nil}
+use Rattle.std.proofs.Common.{ℕ, [], ◌++◌, ap, sym, append-nil}
 use Rattle.std.proofs.lemmas.Bool.{false≢true}
 use Rattle.cd_infer.specs.Conclusions.{PairGives, PairCan, IsWithin, para, places_of, sides, paths_in, paras_into, paras_of_side, paras_from}
 use Rattle.cd_infer.proofs.Listing.{adds_none, gathers_err, among_left}
-use Rattle.cd_infer.proofs.Giving.{usable_short}
 use Rattle.cd_infer.proofs.PairLemmas.{gathers_to, gathers_both, all_of_map, all_of_flat}
 use Rattle.cd_infer.proofs.pairing.para_from.Goals as goal
-
-pub overflow_cast-i : goal.overflow_cast-i
-overflow_cast-i c = omega (arith, usable_short c.args.two.now.a.now c.requires.pairable.first, c.requires.place)
 
 pub returns-then-not-eligible : goal.returns-then-not-eligible
 returns-then-not-eligible c =

@@ -7,17 +7,14 @@ use Rattle.cd_infer.proofs.Giving.{usable_short}
 use Rattle.cd_infer.proofs.PairLemmas.{all_of_map}
 use Rattle.cd_infer.proofs.pairing.para_from_side.Goals as goal
 
-pub overflow_cast-j : goal.overflow_cast-j
-overflow_cast-j c = omega (arith, usable_short c.args.two.now.b.now c.requires.pairable.second)
-
 pub loop-j-preserved-then-not-eligible : goal.loop-j-preserved-then-not-eligible
 loop-j-preserved-then-not-eligible c =
     adds_next (PairGives c.args.two.now.order.now c.args.two.now.a_name c.args.two.now.a.now c.args.two.now.b_name c.args.two.now.b.now) (PairCan c.args.two.now.order.now c.args.two.now.a.now c.args.two.now.b.now) IsWithin (paras_into c.args.two.now.b.now c.args.i c.args.s) c.loop-j.j _ _ _ c.loop-j.invariant
     (adds_none (PairGives c.args.two.now.order.now c.args.two.now.a_name c.args.two.now.a.now c.args.two.now.b_name c.args.two.now.b.now) (PairCan c.args.two.now.order.now c.args.two.now.a.now c.args.two.now.b.now) IsWithin (paras_into c.args.two.now.b.now c.args.i c.args.s c.loop-j.j) c.loop-j.found
     (all_of_map (λ k. PairCan c.args.two.now.order.now c.args.two.now.a.now c.args.two.now.b.now k → ⊥) (para c.args.i c.args.s c.loop-j.j) (paths_in c.args.two.now.b.now c.loop-j.j) (λ p g. false≢true (c.if-not-eligible.ensures.1 g.2))))
 
-pub para_into-requires : goal.para_into-requires
-para_into-requires c = record {
+pub para_into-requires-clause-giving : goal.para_into-requires-clause-giving
+para_into-requires-clause-giving c = record {
   pairable = c.requires.pairable;
   in_a = c.requires.place;
   in_b = omega (arith, usable_short c.args.two.now.b.now c.requires.pairable.second);

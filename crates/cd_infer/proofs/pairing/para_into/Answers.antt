@@ -10,10 +10,10 @@ use Rattle.cd_infer.proofs.PairLemmas.{all_of_map, gathers_to, gathers_both, equ
 use Rattle.cd_infer.proofs.pairing.para_into.Goals as goal
 
 pub walk-requires-clause-few : goal.walk-requires-clause-few
-walk-requires-clause-few c = omega (arith, many_of c.as_slice.result.now, ap (sum_by size_of) c.as_slice.ensures, ap (λ (a : Atom). sum_by size_of (terms_of a)) c.in-Pred.is, terms_small c.args.two.now.b.now c.args.places.j c.in-Some.taker.now c.requires.pairable.second (sym c.in-Some.ensures.value))
+walk-requires-clause-few c = omega (arith, many_of c.as_slice.result.now, ap (sum_by size_of) c.as_slice.ensures, ap (λ (a : Atom). sum_by size_of (terms_of a)) c.in-Pred.is, terms_small c.args.two.now.b.now c.args.places.j c.in-Some.taker.now c.requires.giving.pairable.second (sym c.in-Some.ensures.value))
 
 pub walk-requires-clause-small : goal.walk-requires-clause-small
-walk-requires-clause-small c = omega (arith, many_of c.as_slice.result.now, ap (sum_by size_of) c.as_slice.ensures, ap (λ (a : Atom). sum_by size_of (terms_of a)) c.in-Pred.is, terms_small c.args.two.now.b.now c.args.places.j c.in-Some.taker.now c.requires.pairable.second (sym c.in-Some.ensures.value))
+walk-requires-clause-small c = omega (arith, many_of c.as_slice.result.now, ap (sum_by size_of) c.as_slice.ensures, ap (λ (a : Atom). sum_by size_of (terms_of a)) c.in-Pred.is, terms_small c.args.two.now.b.now c.args.places.j c.in-Some.taker.now c.requires.giving.pairable.second (sym c.in-Some.ensures.value))
 
 pub returns-in-Err : goal.returns-in-Err
 returns-in-Err c =

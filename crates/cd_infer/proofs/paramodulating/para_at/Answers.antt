@@ -13,6 +13,9 @@ use Rattle.cd_infer.proofs.BoundLemmas.{paramodulation_bounded}
 use Rattle.cd_infer.proofs.Giving.{fault_gathers, concludes_none, concludes_outside, concluded_none, concluded_some}
 use Rattle.cd_infer.proofs.paramodulating.para_at.Goals as goal
 
+pub returns-then-clashes_at : goal.returns-then-clashes_at
+returns-then-clashes_at c = adds_none (PairGives c.args.two.now.order.now c.args.two.now.a_name c.args.two.now.a.now c.args.two.now.b_name c.args.two.now.b.now) (PairCan c.args.two.now.order.now c.args.two.now.a.now c.args.two.now.b.now) IsWithin (para c.args.places.i c.args.places.s c.args.places.j c.args.steps.now ∷ []) c.args.found.now ((λ g. c.clashes_at.ensures c.if-clashes_at.true g.4), tt)
+
 pub returns-in_default : goal.returns-in_default
 returns-in_default c = adds_none (PairGives c.args.two.now.order.now c.args.two.now.a_name c.args.two.now.a.now c.args.two.now.b_name c.args.two.now.b.now) (PairCan c.args.two.now.order.now c.args.two.now.a.now c.args.two.now.b.now) IsWithin (para c.args.places.i c.args.places.s c.args.places.j c.args.steps.now ∷ []) c.args.found.now ((λ g. c.in_default.ensures g.4.inference g.4.rule), tt)
 

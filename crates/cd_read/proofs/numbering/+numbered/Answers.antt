@@ -18,7 +18,7 @@ returns-in_err-number-in-App-clause-why t c =
 
 pub loop-arg-init : goal.loop-arg-init
 loop-arg-init t c = record {
-  gives = subst (λ (us : List Term). GivesTerms c.interned.new.symbols c.args.variables.now [] us c.interned.new.symbols c.args.variables.now) (sym c.new-terms.ensures)
+  gives = subst (λ (us : List Term). GivesTerms c.interned.new.symbols c.args.variables.now [] us c.interned.new.symbols c.args.variables.now) (sym c.in_ok-terms-in-App.ensures)
       (none c.interned.new.symbols c.args.variables.now);
 }
 

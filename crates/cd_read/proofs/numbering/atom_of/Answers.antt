@@ -27,8 +27,8 @@ returns-in_err-left-in-Equal-clause-why c =
     (WhyAtom c.args.symbols.now c.args.variables.now c.args.atom.now) e
     (left_why _ _ _ c.in-Equal.l c.in-Equal.r c.in_err-left-in-Equal.field-0.0 c.in-Equal.is c.in_err-left-in-Equal.ensures.why)
 
-pub numbered-requires-in-Equal : goal.numbered-requires-in-Equal
-numbered-requires-in-Equal c =
+pub numbered_side-requires : goal.numbered_side-requires
+numbered_side-requires c =
     record { few = right_room _ _ c.args.variables.now _ _ c.in-Equal.l c.in-Equal.r _ c.in-Equal.is c.in_ok-left-in-Equal.ensures.gives c.requires.few }
 
 pub returns-in_err-right-in-Equal-clause-why : goal.returns-in_err-right-in-Equal-clause-why

@@ -8,7 +8,7 @@ use Rattle.cd_read.proofs.numbering.numbered_all.Goals as goal
 
 pub loop-tree-init : goal.loop-tree-init
 loop-tree-init c = record {
-  gives = subst (λ (us : List Term). GivesTerms c.args.symbols.now c.args.variables.now [] us c.args.symbols.now c.args.variables.now) (sym c.new-terms.ensures)
+  gives = subst (λ (us : List Term). GivesTerms c.args.symbols.now c.args.variables.now [] us c.args.symbols.now c.args.variables.now) (sym c.in_ok-terms.ensures)
       (none c.args.symbols.now c.args.variables.now);
 }
 
@@ -19,8 +19,8 @@ numbered-requires c = record {
 
 pub returns-in_err-term-clause-why : goal.returns-in_err-term-clause-why
 returns-in_err-term-clause-why c =
-    let e : c.from_residual.result ≡ Err c.in_err-term.field-0.0 = search rules in
-    err_is c.from_residual.result c.in_err-term.field-0.0 (WhyTerms c.args.symbols.now c.args.variables.now c.args.trees.now) e
+    let e : c.from_residual-in_err-term.result ≡ Err c.in_err-term.field-0.0 = search rules in
+    err_is c.from_residual-in_err-term.result c.in_err-term.field-0.0 (WhyTerms c.args.symbols.now c.args.variables.now c.args.trees.now) e
     (next_why _ _ c.args.variables.now _ c.args.trees.now _ c.loop-tree.tree-index _ c.in_err-term.field-0.0 c.loop-tree-test.true c.tree-item.is c.loop-tree.invariant.gives c.in_err-term.ensures.why)
 
 pub loop-tree-preserved : goal.loop-tree-preserved

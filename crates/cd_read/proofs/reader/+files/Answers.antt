@@ -58,6 +58,12 @@ pub read_file-returns-clause-spends : goal.read_file-returns-clause-spends
 read_file-returns-clause-spends g t c =
     spends_append _ _ _ _ _ _ c.in_ok-bytes.bytes c.read_statements.result c.in_ok-bytes.ensures.spends c.read_statements.ensures.spends
 
+pub read_file-returns-in_err-file-clause-reads : goal.read_file-returns-in_err-file-clause-reads
+unfolding CameFile
+read_file-returns-in_err-file-clause-reads g t c = λ i same wants.
+    let e : c.from_residual-in_err-file.result ≡ Err failure.Memory = search rules in
+    subst (CameFile i (g.L.Library.holds c.args.library.now) c.args.state.now c.fetch.new.state (g.L.Library.told c.args.library.now) (g.L.Library.told c.fetch.new.library)) (sym e) tt
+
 pub read_file-returns-clause-reads : goal.read_file-returns-clause-reads
 read_file-returns-clause-reads g t c = λ i same wants.
     file_read i c.last.result.now (g.L.Library.holds c.args.library.now)
@@ -66,7 +72,7 @@ read_file-returns-clause-reads g t c = λ i same wants.
     (subst (λ (n : ℕ). CameFrom i (g.L.Library.holds c.fetch.new.library) c.in_ok-bytes.bytes n c.fetch.new.state c.read_statements.new.state (g.L.Library.told c.fetch.new.library) (g.L.Library.told c.read_statements.new.library) c.read_statements.result)
     c.started-progress.ensures.0
     (subst (λ (b : Bytes). CameFrom i (g.L.Library.holds c.fetch.new.library) b c.started-progress.result.at c.fetch.new.state c.read_statements.new.state (g.L.Library.told c.fetch.new.library) (g.L.Library.told c.read_statements.new.library) c.read_statements.result)
-    c.as_slice-2.ensures (c.read_statements.ensures.reads i same wants)))
+    c.as_slice-3.ensures (c.read_statements.ensures.reads i same wants)))
 
 pub read_statements-returns-in_err-read_next-clause-library : goal.read_statements-returns-in_err-read_next-clause-library
 read_statements-returns-in_err-read_next-clause-library g t c =

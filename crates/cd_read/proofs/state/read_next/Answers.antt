@@ -39,7 +39,7 @@ returns-in-Clause c = λ i same wants.
     let e : c.in-Ok.found ≡ found.Statement (Clause c.in-Clause.label c.in-Clause.role c.in-Clause.literals) = c.in-Statement.is ∙ ap (λ (x : TheStatement). found.Statement x) c.in-Clause.is in
     next_clause i _ _ _ c.read_part.new.progress _ _ c.in-Ok.found c.in-Clause.label c.in-Clause.role c.in-Clause.literals c.first_place-place-in-Clause.result c.add_clause.result same e c.in-Ok.ensures
     (sym (ap (λ (ss : List ℕ). slice_get ss 0) c.as_slice-in-Clause.ensures) ∙ c.first_place-place-in-Clause.ensures)
-    (c.add_clause.ensures i (path_is c.args.opens.now i c.last-in-Clause.result.now same c.last-in-Clause.ensures) wants)
+    (c.add_clause.ensures i (path_is c.args.opens.now i c.args.file.now same c.requires.file) wants)
 
 pub returns-in-Include : goal.returns-in-Include
 returns-in-Include c = λ i same wants.

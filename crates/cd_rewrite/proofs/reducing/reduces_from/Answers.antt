@@ -24,5 +24,8 @@ returns-then-not-from_right c =
 pub returns-then-is_idle-2 : goal.returns-then-is_idle-2
 returns-then-is_idle-2 c =
     test_no (Reduces c.args.order.now c.args.e.now c.args.c.now)
-    (sides_idle c.args.order.now c.args.e.now c.args.c.now c.equation_of-eq.result c.args.from_left c.args.from_right c.equation_of-eq.ensures.ready c.equation_of-eq.ensures.clause
+    (sides_idle c.args.order.now c.args.e.now c.args.c.now c.equation_of-eq.result c.args.from_left c.args.from_right (c.equation_of-eq.ensures.ready c.args.order.now) c.equation_of-eq.ensures.clause
     (c.is_idle.ensures c.if-is_idle.true) (c.is_idle-then-is_idle.ensures c.if-is_idle-2.true) c.requires.left c.requires.right)
+
+pub first_place-requires-clause-ready : goal.first_place-requires-clause-ready
+first_place-requires-clause-ready c = c.equation_of-eq.ensures.ready c.args.order.now

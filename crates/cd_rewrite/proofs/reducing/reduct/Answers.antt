@@ -30,3 +30,6 @@ returns-clause-value c =
     reduct_is f (sym c.equation_of-eq.ensures.clause) c.in_ok-at.at (c.in_ok-at.ensures ∙ ap reverse c.as_slice.ensures.value) c.in-Some.left.now c.in-Some.right.now
     c.other_side-to.result.now c.in-Ok-Some.clause c.equation_of-eq.ensures.variables c.in-Some.ensures c.other_side-to.ensures
     (rw c.in-Ok-Some.field-0-is at c.in-Ok-Some.ensures.value)
+
+pub first_place-requires-clause-ready : goal.first_place-requires-clause-ready
+first_place-requires-clause-ready c = c.equation_of-eq.ensures.ready c.args.order.now

@@ -1,0 +1,11 @@
+use Rattle.std.proofs.Common.{sym}
+use Rattle.cd_contract.proofs.Shaping.{variable_shape, made_shape}
+use Rattle.cd_contract.proofs.shapes.short_shape.Goals as goal
+
+pub returns-in-Var : goal.returns-in-Var
+returns-in-Var c = sym (variable_shape 1 c.in-Var.field-0 c.args.t.now c.in-Var.is)
+
+pub returns-in-App : goal.returns-in-App
+returns-in-App c =
+    made_shape 1 c.in-App.f _ _ _ c.mixed.result c.args.t.now _ _ _ _ c.in-App.is c.as_slice-args.ensures c.argument.ensures c.argument-in-App.ensures c.from.ensures
+    c.head_part-first.ensures c.head_part-second.ensures c.mixed.ensures.value

@@ -1,0 +1,107 @@
+//! The shapes that a clause needs in another one to make it superfluous.
+#![tactic(auto)]
+
+ghost use Rattle.std.specs.Prelude.{◌≡◌, false, None};
+ghost use Rattle.cd_clause.specs.declared.Clause.{Clause};
+ghost use Rattle.cd_kbo.specs.declared.order.Order.{Order};
+ghost use Rattle.cd_rewrite.specs.Reduction.{Reduces};
+ghost use Rattle.cd_contract.specs.Hits.{Contracts, IsWay};
+ghost use Rattle.cd_contract.specs.Marks.{Marked, BrieflyMarked, IsSought};
+ghost use Rattle.cd_contract.specs.Needs.{IsFirstShape, IsSideShape, IsNeeds};
+
+use crate::marks::{Brief, Marks};
+use crate::shapes::{shape_of, shape_of_literal};
+use cd_clause::Clause;
+use cd_names::How;
+use cd_rewrite::{has_variables_of, may_lower, sides_of_one};
+use cd_term::Term;
+
+/// A number that is never marked.
+const NEVER: u16 = 65535;
+
+/// The shapes of a clause's first literal, and of the sides of the equation that it may be, where these may lower terms.
+#[derive(Clone, Copy, Debug)]
+pub struct Needs {
+    pub literal: u16,
+    pub left: u16,
+    pub right: u16,
+}
+
+/// The shape of the first literal, or one that is always marked where there is none.
+fn first_shape(d: &Clause) -> u16
+    ensures { IsFirstShape d.now.literals result }
+{
+    match d.literals.as_slice().first() {
+        None => 0,
+        Some(l) => shape_of_literal(l),
+    }
+}
+
+/// The shape of a side.
+fn side_shape(from: &Term, to: &Term) -> u16
+    ensures { IsSideShape from.now to.now result }
+{
+    if !may_lower(from, to) {
+        return NEVER;
+    }
+    if !has_variables_of(from, to) {
+        return NEVER;
+    }
+    shape_of(from)
+}
+
+impl Needs {
+    pub fn of(d: &Clause) -> Needs
+        ensures { IsNeeds d.now result }
+    {
+        let literal = first_shape(d);
+        let Some((left, right)) = sides_of_one(d) else {
+            return Needs {
+                literal,
+                left: NEVER,
+                right: NEVER,
+            };
+        };
+        Needs {
+            literal,
+            left: side_shape(left, right),
+            right: side_shape(right, left),
+        }
+    }
+
+    /// False only where no clause of these needs reduces one of the marks.
+    fn may_reduce(&self, marks: &Marks) -> bool
+        ensures { result ≡ false → (o : Order) (d : Clause) (c : Clause) → IsNeeds d self.now → IsSought c.literals (Marked marks.now) →
+            ¬ Reduces o d c }
+    {
+        if marks.has(self.left) {
+            return true;
+        }
+        marks.has(self.right)
+    }
+
+    /// False only where no clause of these needs makes one of the marks superfluous in a way.
+    pub fn may_contract(&self, how: How, marks: &Marks) -> bool
+        ensures { result ≡ false → (o : Order) (d : Clause) (c : Clause) → IsNeeds d self.now → IsSought c.literals (Marked marks.now) →
+            ¬ Contracts o how d c }
+    {
+        match how {
+            How::Subsumes => marks.has(self.literal),
+            How::Reduces => self.may_reduce(marks),
+        }
+    }
+
+    /// False only where no clause of these needs makes one of the marks superfluous.
+    pub fn may_strike(&self, marks: &Brief) -> bool
+        ensures { result ≡ false → (o : Order) (d : Clause) (c : Clause) → IsNeeds d self.now → IsSought c.literals (BrieflyMarked marks.now) →
+            IsWay o d c None }
+    {
+        if marks.has(self.literal) {
+            return true;
+        }
+        if marks.has(self.left) {
+            return true;
+        }
+        marks.has(self.right)
+    }
+}
