@@ -1,5 +1,6 @@
 -- The derivation of a peer that knows the empty clause: which records, their lines, and what makes lines a refutation.
--- Beyond the headline: no clause of `prove` reaches this file.
+-- Beyond the headline: no clause of `prove` reaches marks_of, picked, Made, clause_at, inputs_in, IsInferred,
+--   IsLineOk, AreLinesOk, EndsWith, IsRefutation, AloneRunsRefute.
 use Rattle.std.specs.List.{list_any}
 use Rattle.std.specs.Prelude.{Bool, List, None, Option, Some, [], false, if◌then◌else◌, length, map, slice_get, true, ℕ, ◌++◌, ◌+◌, ◌==◌, ◌∷◌, ◌≡◌, ◌⊎◌}
 use Rattle.cd_alone.specs.Alone.{AloneRun}

@@ -1,5 +1,4 @@
 -- The derivation of a peer that is refuted, as printed lines.
--- Beyond the headline: no clause of `prove` reaches this file.
 use Rattle.std.specs.Prelude.{◌≡◌, ℕ, List, [], ◌∷◌, map, Option, None, Some, slice_get}
 use Rattle.cd_alone.specs.Derived as derived
 use Rattle.cd_ledger.specs.declared.local.Local.{Local}

@@ -1,5 +1,4 @@
 -- Clauses over the symbols of a problem: each symbol stands with as many arguments as it has there.
--- Beyond the headline: no clause of `prove` reaches this file.
 use Rattle.std.specs.Prelude.{List, [], ◌∷◌, length, IsTrue}
 use Rattle.std.specs.List.{AllByRecursion}
 use Rattle.cd_term.specs.Symbols.{Symbols, AreOver}

@@ -1,5 +1,6 @@
 -- Which held clauses make a clause superfluous, and which a clause makes superfluous.
--- Beyond the headline: no clause of `prove` reaches this file.
+-- Beyond the headline: no clause of `prove` reaches Contracts, Contracting, IsFirstOf, IsForward, IsWay, IsStruckBy,
+--   hits_with, AreStruck, IsReducer.
 use Rattle.std.specs.Prelude.{◌≡◌, ◌⊎◌, List, [], ◌∷◌, Option, Some, None, option_map}
 use Rattle.std.specs.declared.cmp.Ordering.TheVariants.{Less}
 use Rattle.cd_clause.specs.declared.Clause.{Clause}

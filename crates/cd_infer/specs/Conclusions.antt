@@ -1,5 +1,6 @@
 -- What one clause concludes alone, and two together.
--- Beyond the headline: no clause of `prove` reaches this file.
+-- Beyond the headline: no clause of `prove` reaches IsUsable, IsPairable, IsGiving, HasSideAt, PairAnswers,
+--   SoloAnswers.
 use Rattle.std.specs.Prelude.{◌≡◌, ◌⊎◌, ◌≤◌, ◌<◌, ℕ, List, [], ◌∷◌, ◌++◌, length, map, Option, Some, None, slice_get, Result, Ok, Err}
 use Rattle.std.specs.List.{flat_map, range_with_len, AllByRecursion}
 use Rattle.cd_term.specs.declared.TermFault.{TermFault}

@@ -1,5 +1,5 @@
 -- Lists of what places give, in the order of the places.
--- Beyond the headline: no clause of `prove` reaches this file.
+-- Beyond the headline: no clause of `prove` reaches Adds, Overflows, Gathers.
 use Rattle.std.specs.Prelude.{◌≡◌, ◌⊎◌, List, [], ◌∷◌, ◌++◌, Result, Ok, Err}
 use Rattle.std.specs.List.{AllByRecursion}
 use Rattle.cd_term.specs.declared.TermFault.{TermFault}

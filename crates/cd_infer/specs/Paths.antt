@@ -1,5 +1,5 @@
 -- The paths of a literal that lead to subterms other than variables.
--- Beyond the headline: no clause of `prove` reaches this file.
+-- Beyond the headline: no clause of `prove` reaches walked, paths_from.
 use Rattle.std.specs.Prelude.{ℕ, suc, List, [], ◌∷◌, ◌++◌, map}
 use Rattle.cd_term.specs.declared.Term.{Term, fold-Term}
 use Rattle.cd_term.specs.declared.Term.TheOpen.{Term-F}

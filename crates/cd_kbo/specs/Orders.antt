@@ -1,5 +1,5 @@
 -- Weights and ranks of symbols, and how an order changes.
--- Beyond the headline: no clause of `prove` reaches this file.
+-- Beyond the headline: no clause of `prove` reaches ChangesOnly.
 use Rattle.std.specs.Prelude.{ℕ, ◌≡◌, ◌≢◌, slice_index, slice_index_or}
 use Rattle.cd_kbo.specs.declared.order.Order.{Order}
 

@@ -1,5 +1,4 @@
 -- Ground forms of literals.
--- Beyond the headline: no clause of `prove` reaches this file.
 use Rattle.std.specs.Prelude.{Option, Some, None, if◌then◌else◌}
 use Rattle.std.specs.Option.{option_cmp}
 use Rattle.std.specs.Ordering.{is_lt, on, flip_args, then_cmp, bool_cmp}

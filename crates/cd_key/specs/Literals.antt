@@ -1,5 +1,5 @@
 -- Literals compared for all values of their variables, and those that inferences are made on.
--- Beyond the headline: no clause of `prove` reaches this file.
+-- Beyond the headline: no clause of `prove` reaches HasSmallSides, AreComparable.
 use Rattle.std.specs.Prelude.{ℕ, ◌≡◌, ◌≢◌, ◌^◌, ◌<◌, true, false, not, ◌⊎◌, List, [], ◌∷◌, All, Option, Some, None, position, slice_get, MatchOption}
 use Rattle.std.specs.List.{AllByRecursion}
 use Rattle.cd_term.specs.declared.Term.{Term}

@@ -1,5 +1,4 @@
 -- Occurrences of variables in clauses.
--- Beyond the headline: no clause of `prove` reaches this file.
 use Rattle.std.specs.Prelude.{ℕ, zero, suc, ◌+◌, ◌-◌, Bool, nat_lt, List, length, map, sum_by, if◌then◌else◌}
 use Rattle.std.specs.List.{flat_map}
 use Rattle.cd_term.specs.declared.Term.{Term}

@@ -1,5 +1,9 @@
 -- What holds at every moment of every run: the invariant of the laws.
--- Beyond the headline: no clause of `prove` reaches this file.
+-- Beyond the headline: no clause of `prove` reaches IsSpread, IsPlaced, Beaten, TrueReason, TrueStatus, IsRight,
+--   TrueKnown, TrueNotice, TrueBody, TrueLetter, NameBelow, ReworkOf, FromTask, FromOrigin, ForcedFits, ItemFalls,
+--   BehindCopy, TrueItem, OutcomeBelow, EndFalls, TrueSettled, IsMine, TrueDone, TrueToken, IsTrue, IsTrueWorld,
+--   home_times, Owes, OwesPair, OwesSolo, reason_ends, status_ends, is_ended, IsCounted, StatusIs, Linked, IsShared,
+--   unheld_times, heard, HasTold, tokens_at, tokens_of, IsSound.
 use Rattle.std.specs.List.{AllByRecursion as Each, flat_map}
 use Rattle.std.specs.Prelude.{Bool, List, None, Option, Some, [], cond, false, is_some, length, nat_lt, not, slice_get, true, ℕ, ◌%◌, ◌&&◌, ◌+◌, ◌<◌, ◌==◌, ◌^◌, ◌∷◌, ◌≡◌, ◌≢◌, ◌≤◌}
 use Rattle.cd_clause.specs.declared.Clause.{Clause}

@@ -1,5 +1,8 @@
 -- What a run keeps: names, live clauses and what the others rest on, models, and accounts of tasks.
--- Beyond the headline: no clause of `prove` reaches this file.
+-- Beyond the headline: no clause of `prove` reaches ByItem, ByEntry, Covered, forced_names, outcome_names, rests,
+--   DescendsIn, Descends, BodyGenuine, InRuns, StatusFits, AreNamesOne, NamesAreOne, PeersAreContracted,
+--   NamesDescend, CarriedClausesKeepModels, TasksAreAccounted, HasOneToken, TokensAreOne, HasNoLetters,
+--   LonePeersSendNothing, Laws, RunsAreLawful, RunsRejectNothing.
 use Rattle.std.proofs.Common.{inl, inr}
 use Rattle.std.specs.List.{AllByRecursion as Each, flat_map}
 use Rattle.std.specs.Prelude.{List, None, Option, Some, [], length, slice_get, suc, true, zero, ℕ, ◌&&◌, ◌++◌, ◌+◌, ◌<◌, ◌∷◌, ◌≡◌, ◌≢◌, ◌⊎◌}

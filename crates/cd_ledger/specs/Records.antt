@@ -1,5 +1,5 @@
 -- Names and records at a peer, the steps of a record, and who owns it.
--- Beyond the headline: no clause of `prove` reaches this file.
+-- Beyond the headline: no clause of `prove` reaches is_input.
 use Rattle.std.specs.Prelude.{find, ◌≡◌, ℕ, ◌%◌, ◌==◌, Bool, true, false, not, cond, List, [], ◌∷◌, Option, Some, None}
 use Rattle.std.specs.List.{list_any, flat_map}
 use Rattle.std.specs.List.{AllByRecursion as Each}

@@ -1,5 +1,4 @@
 -- What the status of a name says.
--- Beyond the headline: no clause of `prove` reaches this file.
 use Rattle.std.specs.Prelude.{Bool, true, false}
 use Rattle.cd_ledger.specs.declared.records.Status.{Status}
 use Rattle.cd_ledger.specs.declared.records.Status.TheVariants.{Held, Rework, Dropped, Told}

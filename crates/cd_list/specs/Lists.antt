@@ -1,5 +1,5 @@
 -- Lists: some item, each pair, how many pass a test, and lists that are gathered from parts.
--- Beyond the headline: no clause of `prove` reaches AllPairs.
+-- Beyond the headline: no clause of `prove` reaches AllPairs, Gathered.
 use Rattle.std.specs.Prelude.{◌≡◌, ◌⊎◌, ℕ, ◌+◌, Bool, if◌then◌else◌, List, [], ◌∷◌, ◌++◌}
 use Rattle.std.specs.List.{AllByRecursion}
 

@@ -1,5 +1,4 @@
 -- What settling an item, admitting a letter, rewriting and doing a task leave and send.
--- Beyond the headline: no clause of `prove` reaches this file.
 use Rattle.std.specs.List.{cons_option}
 use Rattle.std.specs.List.{AllByRecursion as Each}
 use Rattle.std.specs.Prelude.{List, None, Option, Some, [], if◌then◌else◌, length, map, remove, slice_get, slice_set, suc, zero, ℕ, ◌&&◌, ◌++◌, ◌+◌, ◌==◌, ◌∷◌, ◌≡◌}

@@ -1,5 +1,4 @@
 -- A record comes to be known.
--- Beyond the headline: no clause of `prove` reaches this file.
 use Rattle.std.specs.List.{cons_option}
 use Rattle.std.specs.Prelude.{List, Option, Some, [], if◌then◌else◌, map, not, ℕ, ◌++◌, ◌==◌, ◌∷◌}
 use Rattle.cd_clause.specs.declared.Clause.{Clause}

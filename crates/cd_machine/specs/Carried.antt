@@ -1,5 +1,4 @@
 -- The clauses that the world carries, and a world in which nothing is left to be done.
--- Beyond the headline: no clause of `prove` reaches this file.
 use Rattle.std.specs.List.{flat_map}
 use Rattle.std.specs.Prelude.{List, None, Option, Some, [], filter_map, if◌then◌else◌, length, map, ℕ, ◌&&◌, ◌++◌, ◌+◌, ◌<◌, ◌==◌, ◌≡◌}
 use Rattle.cd_clause.specs.declared.Clause.{Clause}

@@ -1,7 +1,6 @@
 -- Contraction: one primitive for whatever makes held clauses superfluous. A test says which entries are hit, and how: it is a map over
 -- the known names, a filter over the owed tasks, and two gathered lists, the items that take the place of what is reduced at
 -- its owner, and the notices to owners elsewhere.
--- Beyond the headline: no clause of `prove` reaches this file.
 use Rattle.std.specs.List.{list_any}
 use Rattle.std.specs.Prelude.{Bool, List, None, Option, Some, [], filter, filter_map, if◌then◌else◌, is_some, map, not, ℕ, ◌&&◌, ◌++◌, ◌==◌, ◌∷◌}
 use Rattle.cd_ledger.specs.Records.{is_of}

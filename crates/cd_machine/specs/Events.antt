@@ -1,5 +1,5 @@
 -- What an event leaves and sends, given what was found for it; and the clock.
--- Beyond the headline: no clause of `prove` reaches this file.
+-- Beyond the headline: no clause of `prove` reaches no_token.
 use Rattle.std.specs.Prelude.{Bool, List, Option, Some, [], cond, false, if◌then◌else◌, max, min, nat_lt, not, true, ℕ, ◌++◌, ◌+◌, ◌-◌, ◌^◌, ◌∷◌}
 use Rattle.cd_contract.specs.declared.held.Hit.{Hit}
 use Rattle.cd_ledger.specs.declared.events.Act.{Act}

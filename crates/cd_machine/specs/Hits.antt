@@ -1,5 +1,4 @@
 -- Which held clauses a record hits, and which held clause hits a record or an item.
--- Beyond the headline: no clause of `prove` reaches this file.
 use Rattle.std.specs.List.{AllByRecursion as Each}
 use Rattle.std.specs.Prelude.{List, None, Option, Some, true, ◌≡◌}
 use Rattle.cd_clause.specs.declared.Clause.{Clause}

@@ -1,5 +1,4 @@
 -- The first item of a list that has a property.
--- Beyond the headline: no clause of `prove` reaches this file.
 use Rattle.std.specs.List.{AllByRecursion as Each}
 use Rattle.std.specs.Prelude.{List, ◌++◌, ◌∷◌, ◌≡◌}
 

@@ -1,5 +1,4 @@
 -- Steps that lead, one behind the other, from what names stand for to a clause.
--- Beyond the headline: no clause of `prove` reaches this file.
 use Rattle.std.specs.Prelude.{◌≡◌, ◌⊎◌, List, [], ◌∷◌, Option, Some, slice_get}
 use Rattle.std.specs.Option.{option_map}
 use Rattle.cd_clause.specs.declared.Clause.{Clause}

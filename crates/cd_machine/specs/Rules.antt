@@ -1,6 +1,6 @@
 -- What the machine takes from terms, clauses and the rules of inference: relations that stay closed here, so that no law
 -- over runs looks into them. What depends on the order of terms takes it first.
--- Beyond the headline: no clause of `prove` reaches this file.
+-- Beyond the headline: no clause of `prove` reaches Falls.
 use Rattle.std.specs.Prelude.{ℕ, Bool, true, false, List, [], ◌∷◌, map, Option, slice_get}
 use Rattle.cd_clause.specs.Clauses as clauses
 use Rattle.cd_clause.specs.Clauses.{IsWithinBounds}

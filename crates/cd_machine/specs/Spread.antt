@@ -1,5 +1,5 @@
 -- Where a name is known, and where a letter brings it.
--- Beyond the headline: no clause of `prove` reaches this file.
+-- Beyond the headline: no clause of `prove` reaches issued_by, issued.
 use Rattle.std.specs.Prelude.{Bool, Some, cond, false, nat_lt, ℕ, ◌&&◌, ◌==◌, ◌≡◌}
 use Rattle.cd_ledger.specs.Records.{Registry, is_of, recorded}
 use Rattle.cd_ledger.specs.Statuses.{is_held}

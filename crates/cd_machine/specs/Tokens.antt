@@ -1,5 +1,4 @@
 -- The token: two waves of counts around the ring of peers.
--- Beyond the headline: no clause of `prove` reaches this file.
 use Rattle.std.specs.Prelude.{Bool, List, None, Some, [], if◌then◌else◌, length, nat_lt, ℕ, ◌&&◌, ◌++◌, ◌+◌, ◌==◌, ◌∷◌}
 use Rattle.cd_ledger.specs.declared.letters.Letter.{Letter}
 use Rattle.cd_ledger.specs.declared.local.Local.{Local}

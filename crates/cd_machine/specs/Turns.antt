@@ -1,5 +1,5 @@
 -- The event that a turn makes.
--- Beyond the headline: no clause of `prove` reaches this file.
+-- Beyond the headline: no clause of `prove` reaches IsTurn, IsIdle, HasTurn, IsTurning.
 use Rattle.std.specs.List.{AllByRecursion as Each}
 use Rattle.std.specs.Prelude.{List, None, [], false, length, true, ℕ, ◌++◌, ◌∷◌, ◌≡◌, ◌⊎◌}
 use Rattle.cd_infer.specs.declared.Conclusion.{Conclusion}

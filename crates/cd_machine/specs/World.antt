@@ -1,5 +1,4 @@
 -- All peers with the travelling letters, their runs, and how they start.
--- Beyond the headline: no clause of `prove` reaches this file.
 use Rattle.std.specs.List.{AllByRecursion as Each}
 use Rattle.std.specs.Prelude.{List, None, Option, Some, [], cond, false, length, remove, slice_get, slice_index_or, slice_set, true, ℕ, ◌%◌, ◌++◌, ◌+◌, ◌<◌, ◌==◌, ◌^◌, ◌∷◌, ◌≡◌, ◌⊎◌}
 use Rattle.cd_clause.specs.declared.Clause.{Clause}

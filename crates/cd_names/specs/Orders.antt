@@ -1,5 +1,5 @@
 -- The orders of names and of stamps.
--- Beyond the headline: no clause of `prove` reaches this file.
+-- Beyond the headline: no clause of `prove` reaches stamp_cmp.
 use Rattle.std.specs.Ordering.{nat_cmp, on, then_cmp}
 use Rattle.std.specs.declared.cmp.Ordering.{Ordering}
 use Rattle.cd_names.specs.declared.names.Name.{Name}

@@ -1,5 +1,4 @@
 -- The owners of recorded clauses.
--- Beyond the headline: no clause of `prove` reaches this file.
 use Rattle.std.specs.Prelude.{ℕ, ◌+◌, ◌%◌}
 use Rattle.cd_names.specs.declared.ownership.Policy.{Policy}
 use Rattle.cd_names.specs.declared.ownership.Policy.TheVariants.{Round, Issuer, Size}

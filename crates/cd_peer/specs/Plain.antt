@@ -1,5 +1,4 @@
 -- The order of terms that peers use.
--- Beyond the headline: no clause of `prove` reaches this file.
 use Rattle.std.specs.Prelude.{[]}
 use Rattle.std.proofs.Common.{arith}
 use Rattle.cd_kbo.specs.Weights.{AreWeights}

@@ -1,6 +1,5 @@
 -- Rewriting by an equation alone, where a term gets smaller.
 -- Demodulation; Baader and Nipkow, Term Rewriting and All That, 4.2.
--- Beyond the headline: no clause of `prove` reaches this file.
 use Rattle.std.specs.Prelude.{ℕ, ◌≡◌, ◌≢◌, true, List, [], ◌∷◌, length, Some, IsTrue, slice_get, slice_set}
 use Rattle.std.specs.Ordering.{nat_cmp, ordering_then}
 use Rattle.std.specs.Cmp.Lexicographic.{slice_cmp}

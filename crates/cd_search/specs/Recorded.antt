@@ -1,6 +1,5 @@
 -- Runs in which each peer does what its order of choices names, and what is recorded of them: a journal of each peer, and the
 -- order in which they grew.
--- Beyond the headline: no clause of `prove` reaches this file.
 use Rattle.std.specs.List.{list_any}
 use Rattle.std.specs.Prelude.{ℕ, ◌≡◌, ◌++◌, ◌+◌, Bool, List, [], ◌∷◌, length, Option, Some, None, slice_get, slice_set}
 use Rattle.cd_kbo.specs.declared.order.Order.{Order}

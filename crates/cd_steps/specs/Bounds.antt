@@ -1,5 +1,5 @@
 -- Steps within bounds, and what a step gives.
--- Beyond the headline: no clause of `prove` reaches this file.
+-- Beyond the headline: no clause of `prove` reaches AnswersGiven.
 use Rattle.std.specs.Prelude.{◌≤◌, List, [], map, Option, Some, None, Result, Ok, Err}
 use Rattle.cd_term.specs.declared.Term.{Term}
 use Rattle.cd_term.specs.declared.TermFault.{TermFault}

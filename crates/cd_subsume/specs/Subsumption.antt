@@ -1,5 +1,5 @@
 -- Subsumption: an instance of each literal of a clause is a literal of another, each a different one.
--- Beyond the headline: no clause of `prove` reaches this file.
+-- Beyond the headline: no clause of `prove` reaches IsSubsumption.
 use Rattle.std.specs.Prelude.{ℕ, ◌≡◌, ◌≢◌, ◌<◌, Bool, true, false, List, length, Option, Some, slice_get, MatchOption}
 use Rattle.cd_term.specs.declared.Term.{Term}
 use Rattle.cd_term.specs.Terms.{substituted, value_of}

@@ -1,5 +1,6 @@
 -- The order of tasks, the tasks of a new name, and what is left of the order at a place in it.
--- Beyond the headline: no clause of `prove` reaches this file.
+-- Beyond the headline: no clause of `prove` reaches due, tasks_at, order, task_order, rest_at, at_hand, owed_at,
+--   owed_of, IsBackOf.
 use Rattle.std.specs.Prelude.{◌≡◌, ℕ, Bool, not, ◌&&◌, if◌then◌else◌, List, [], ◌∷◌, ◌++◌, map, filter, take, drop}
 use Rattle.cd_names.specs.declared.names.Name.{Name}
 use Rattle.cd_tasks.specs.declared.Task.{Task}

@@ -1,5 +1,6 @@
 -- What a contract sees of the tasks: the arrivals, what is owed, and for how many arrivals there is room.
--- Beyond the headline: no clause of `prove` reaches this file.
+-- Beyond the headline: no clause of `prove` reaches Owing, IsNew, IsPlaceOf, put_in, arrived_covered, arrived,
+--   cover_one, free_of, without, finished, roomy.
 use Rattle.std.specs.Prelude.{true, ◌≡◌, Some, slice_get, ◌≢◌, ℕ, ◌-◌, Bool, false, not, ◌||◌, List, [], ◌∷◌, ◌++◌, map, filter, drop, max}
 use Rattle.std.specs.List.{AllByRecursion}
 use Rattle.std.specs.Option.{option_map}

@@ -1,5 +1,4 @@
 -- Terms over the symbols of a problem: each function symbol stands with as many arguments as it has there.
--- Beyond the headline: no clause of `prove` reaches this file.
 use Rattle.std.specs.Prelude.{ℕ, Bool, true, ◌&&◌, List, length, IsTrue}
 use Rattle.std.specs.List.{list_all, AllByRecursion}
 use Rattle.cd_term.specs.declared.Term.{Term, fold-Term}

@@ -1,6 +1,6 @@
 -- Terms as trees: sizes, variables, substitution and places.
--- Beyond the headline: no clause of `prove` reaches occurs_step, occurs, one, IsWithin, IsWithinLimits, IsMeasure,
---   IsMeasureOf, AreMeasured, IsNumberedFrom, unranked, renumbered, renamed_by, mark, marked, first_from.
+-- Beyond the headline: no clause of `prove` reaches one, IsWithin, IsWithinLimits, IsMeasure, IsMeasureOf,
+--   AreMeasured, unranked, renumbered, renamed_by, mark, marked, first_from.
 use Rattle.std.specs.List.{list_any, flat_map}
 use Rattle.std.specs.Prelude.{ℕ, Bool, nat_eq, nat_lt, ◌≡◌, ◌+◌, ◌≤◌, max, List, [], ◌∷◌, ◌++◌, map, sum, sum_by, suc, Option, Some, None, slice_get, slice_index, slice_set, unwrap_or, if◌then◌else◌, option_and_then, option_map}
 use Rattle.cd_term.specs.declared.Term.{Term, fold-Term, out-Term}

@@ -1,5 +1,6 @@
 -- Unifiers and matches of two lists of terms, over all substitutions: functions from variables to terms.
--- Beyond the headline: no clause of `prove` reaches this file.
+-- Beyond the headline: no clause of `prove` reaches raised, HaveNoUnifier, Absorbs, IsUnifierOrNone, Matches,
+--   HaveNoMatch, IsMatch, Fits, ItemFits, PrefixFits, IsMatchOrNone.
 use Rattle.std.specs.Prelude.{ℕ, ◌≡◌, ◌+◌, ◌<◌, List, length, map, Option, None, slice_index_or, take, IfSome, Bool, IsTrue, ◌↔◌, MatchOption}
 use Rattle.std.specs.List.{flat_map}
 use Rattle.cd_term.specs.declared.Term.{Term}
