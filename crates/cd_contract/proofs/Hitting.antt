@@ -6,10 +6,9 @@ use Rattle.cd_clause.specs.declared.Clause.{Clause}
 use Rattle.cd_kbo.specs.declared.order.Order.{Order}
 use Rattle.cd_names.specs.declared.names.Name.{Name}
 use Rattle.cd_names.specs.declared.How.{How}
-use Rattle.cd_names.specs.declared.How.TheVariants.{Subsumes}
 use Rattle.cd_term.specs.declared.Term.{Term}
 use Rattle.cd_term.specs.Terms.{value_of}
-use Rattle.cd_subsume.specs.Subsumption.{SubsumesBy}
+use Rattle.cd_subsume.specs.Subsumption.{Subsumes, SubsumesBy}
 use Rattle.cd_contract.specs.declared.held.Entry.{Entry}
 use Rattle.cd_contract.specs.declared.held.Kept.{Kept}
 use Rattle.cd_contract.specs.declared.held.Struck.{Struck}
@@ -83,9 +82,8 @@ collects_end o d n ks es i hits is le so_far =
     subst (λ ys. AreStruck o d n ys hits) is
     (subst (AreStruck o d n (entries_of ks)) (append-nil hits) (so_far [] (subst (λ ys. AreStruck o d n (entries_of ys) []) (sym (drop_all i ks le)) refl)))
 
-pub subsumes_way : (o : Order) (how : How) (d c : Clause) (s : List Term) → how ≡ Subsumes → SubsumesBy (value_of s) d c →
-    (true ≡ true → Contracts o how d c) × (Contracts o how d c → true ≡ true)
-subsumes_way o how d c s is by = (λ e. subst (λ h. Contracts o h d c) (sym is) (value_of s, by), λ k. refl)
+pub subsumer_told : (d c : Clause) (s : List Term) → SubsumesBy (value_of s) d c → (true ≡ true → Subsumes d c) × (Subsumes d c → true ≡ true)
+subsumer_told d c s by = (λ e. (value_of s, by), λ k. refl)
 
 pub refused_way : (o : Order) (how kind : How) (d c : Clause) → how ≡ kind → (Contracts o kind d c → ⊥) →
     (false ≡ true → Contracts o how d c) × (Contracts o how d c → false ≡ true)

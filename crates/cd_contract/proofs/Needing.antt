@@ -10,7 +10,7 @@ use Rattle.cd_kbo.specs.declared.order.Order.{Order}
 use Rattle.cd_kbo.specs.Kbo.{Greater}
 use Rattle.cd_subsume.specs.declared.picks.Pick.{Pick}
 use Rattle.cd_subsume.specs.Subsumption.{ArePicked, Subsumes}
-use Rattle.cd_rewrite.specs.Reduction.{Reduces}
+use Rattle.cd_rewrite.specs.Reduction.{Spot, ReducesBy, ReducesAt, Reduces}
 use Rattle.cd_rewrite.specs.Equations.{Falls}
 use Rattle.cd_rewrite.proofs.FirstPlaces.{at_atom, steps_among}
 use Rattle.cd_rewrite.proofs.Turns.{atoms_same, the_atom}
@@ -42,23 +42,32 @@ subterm_met : (P : ℕ → Type 0) (path : List ℕ) (ts : List Term) (u : Term)
 subterm_met P [] ts u met at = absurd (cc)
 subterm_met P (i ∷ path) ts u met at = let s = steps_among i path ts u at in met i s.arg s.here path u s.rest
 
+old_met : (P : ℕ → Type 0) (o : Order) (d c : Clause) (at : Spot) (g : ℕ → Term) (by : ReducesBy o d c at g) → IsSought c.literals P → Meets P by.old
+old_met P o d c at g by sought =
+    subterm_met P at.path (terms_of by.taker.atom) by.old (sought.each at.literal by.taker by.literal).terms (sym (at_atom at.path by.taker.atom) ∙ by.there)
+
+falls_so : (o : Order) (d c : Clause) (at : Spot) (g : ℕ → Term) (by : ReducesBy o d c at g) → Falls o by.lowers.from by.lowers.to g by.old
+falls_so o d c at g by = (by.lowers.covered, by.lowers.matched, subst (λ u. Greater o by.old u) (sym by.lowers.result) by.lowers.falls)
+
+pub left_needed : (P : ℕ → Type 0) (o : Order) (d c : Clause) (n : Needs) → IsNeeds d n → IsSought c.literals P → (at : Spot) → at.side ≡ 0 → ReducesAt o d c at → P n.left
+left_needed P o d c n needs sought at side (g, by) =
+    let sides : HasSides 0 by.lowers.rule.equation by.lowers.from by.lowers.to = subst (λ k. HasSides k by.lowers.rule.equation by.lowers.from by.lowers.to) side by.lowers.rule.sides in
+    subst P (sym (needs.left by.lowers.from by.lowers.to (by.lowers.rule.one ∙ ap (λ a. signed true a ∷ []) sides) o g by.old (falls_so o d c at g by)))
+    ((old_met P o d c at g by sought).shapes g by.lowers.from by.lowers.matched)
+
+pub right_needed : (P : ℕ → Type 0) (o : Order) (d c : Clause) (n : Needs) → IsNeeds d n → IsSought c.literals P → (at : Spot) → at.side ≡ 1 → ReducesAt o d c at → P n.right
+right_needed P o d c n needs sought at side (g, by) =
+    let sides : HasSides 1 by.lowers.rule.equation by.lowers.from by.lowers.to = subst (λ k. HasSides k by.lowers.rule.equation by.lowers.from by.lowers.to) side by.lowers.rule.sides in
+    subst P (sym (needs.right by.lowers.to by.lowers.from (by.lowers.rule.one ∙ ap (λ a. signed true a ∷ []) sides) o g by.old (falls_so o d c at g by)))
+    ((old_met P o d c at g by sought).shapes g by.lowers.from by.lowers.matched)
+
 pub reducer_needs : (P : ℕ → Type 0) (o : Order) (d c : Clause) (n : Needs) → IsNeeds d n → IsSought c.literals P → Reduces o d c → P n.left ⊎ P n.right
-reducer_needs P o d c n needs sought (at, (g, by)) = from at.side by.lowers.rule.sides
+reducer_needs P o d c n needs sought (at, red) = from at.side refl (red.1.lowers.rule.sides)
   where
-    old_met : Meets P by.old
-    old_met = subterm_met P at.path (terms_of by.taker.atom) by.old (sought.each at.literal by.taker by.literal).terms (sym (at_atom at.path by.taker.atom) ∙ by.there)
-
-    falls : Falls o by.lowers.from by.lowers.to g by.old
-    falls = (by.lowers.covered, by.lowers.matched, subst (λ u. Greater o by.old u) (sym by.lowers.result) by.lowers.falls)
-
-    from : (side : ℕ) → HasSides side by.lowers.rule.equation by.lowers.from by.lowers.to → P n.left ⊎ P n.right
-    from zero sides =
-        inl (subst P (sym (needs.left by.lowers.from by.lowers.to (by.lowers.rule.one ∙ ap (λ a. signed true a ∷ []) sides) o g by.old falls))
-        (old_met.shapes g by.lowers.from by.lowers.matched))
-    from (suc zero) sides =
-        inr (subst P (sym (needs.right by.lowers.to by.lowers.from (by.lowers.rule.one ∙ ap (λ a. signed true a ∷ []) sides) o g by.old falls))
-        (old_met.shapes g by.lowers.from by.lowers.matched))
-    from (suc (suc k)) sides = absurd sides
+    from : (side : ℕ) → at.side ≡ side → HasSides side red.1.lowers.rule.equation red.1.lowers.from red.1.lowers.to → P n.left ⊎ P n.right
+    from zero is sides = inl (left_needed P o d c n needs sought at is red)
+    from (suc zero) is sides = inr (right_needed P o d c n needs sought at is red)
+    from (suc (suc k)) is sides = absurd sides
 
 -- ---- what the tests refuse
 

@@ -19,7 +19,7 @@ item_there [] i lt = absurd (omega (arith, lt))
 item_there (k ∷ ks) zero lt = (k, refl)
 item_there (k ∷ ks) (suc i) lt = item_there ks i (omega (arith, lt))
 
-beside : {B : Type 0} (R : Entry → B → Type 0) (ks : List Kept) (ys : List B) (i : ℕ) (k : Kept) (y : B) → AreInStep R (entries_of ks) ys → i < length ys → k ≡ get_or ks i k →
+pub beside : {B : Type 0} (R : Entry → B → Type 0) (ks : List Kept) (ys : List B) (i : ℕ) (k : Kept) (y : B) → AreInStep R (entries_of ks) ys → i < length ys → k ≡ get_or ks i k →
     R k.entry (get_or ys i y)
 beside R ks ys i k y step lt at = subst (λ (x : Kept). R x.entry (get_or ys i y)) (sym at) (step_at R ks ys i k y step lt)
 

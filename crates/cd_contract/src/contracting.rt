@@ -4,9 +4,11 @@
 //! compared last, only where a clause subsumes or reduces another.
 #![tactic(auto)]
 
-ghost use Rattle.std.specs.Prelude.{◌≡◌, ◌≤◌, ◌<◌, ◌↔◌, ◌∷◌, [], Some, None, List, IsTrue, IfOk, length, slice_index_or};
+ghost use Rattle.std.specs.Prelude.{◌≡◌, ◌⊎◌, false, ◌≤◌, ◌<◌, ◌↔◌, ◌∷◌, [], Some, None, List, IsTrue, IfOk, length, slice_index_or};
 ghost use Rattle.std.specs.Option.{option_copied};
 ghost use Rattle.cd_clause.specs.Clauses.{IsWithinBounds};
+ghost use Rattle.cd_subsume.specs.Subsumption.{Subsumes};
+ghost use Rattle.cd_rewrite.specs.Reduction.{Spot, ReducesAt};
 ghost use Rattle.cd_contract.specs.declared.held.Entry.{Entry};
 ghost use Rattle.cd_contract.specs.Hits.{Contracting, IsFirstOf, IsForward, IsWay, IsStruckBy, AreStruck, Contracts, IsReducer};
 ghost use Rattle.cd_contract.specs.Rows.{IsRow, IsKept, AreKept, entries_of};
@@ -26,12 +28,32 @@ use cd_rewrite::reduces_from;
 use cd_subsume::subsumes;
 use std::alloc::{AllocError, Global};
 
-/// Whether a clause makes another one superfluous in a way. Most don't by their counts.
+/// Whether a clause subsumes another one. Most don't come here, so it stands apart from the tests before it.
+#[inline(never)]
+fn is_subsumer(alloc: Global, d: &Clause, c: &Clause) -> Result<bool, AllocError>
+    ensures { IfOk result (λ b. IsTrue b ↔ Subsumes d.now c.now) }
+{
+    let Some(_subst) = subsumes(alloc, d, c)? else {
+        return Ok(false);
+    };
+    Ok(true)
+}
+
+/// Whether both tests hold.
+fn are_both(one: bool, other: bool) -> bool
+    ensures { result ≡ false → (one ≡ false) ⊎ (other ≡ false) }
+{
+    one && other
+}
+
+/// Whether a clause makes another one superfluous in a way, where shapes tell from which sides it may reduce. Most
+/// don't by their counts.
 fn contracts(
     alloc: Global,
     how: How,
     d: &Clause,
     row: &Row,
+    shapes: (bool, bool),
     c: &Clause,
     sought: &Row,
     order: &Order,
@@ -39,6 +61,8 @@ fn contracts(
     requires clause { IsWithinBounds c.now }
     requires row { IsRow d.now row.now }
     requires sought { IsRow c.now sought.now }
+    requires left { shapes.0 ≡ false → (at : Spot) → at.side ≡ 0 → ¬ ReducesAt order.now d.now c.now at }
+    requires right { shapes.1 ≡ false → (at : Spot) → at.side ≡ 1 → ¬ ReducesAt order.now d.now c.now at }
     ensures { IfOk result (λ b. IsTrue b ↔ Contracts order.now how d.now c.now) }
 {
     match how {
@@ -46,14 +70,13 @@ fn contracts(
             if !row.may_subsume(sought) {
                 return Ok(false);
             }
-            let Some(_subst) = subsumes(alloc, d, c)? else {
-                return Ok(false);
-            };
-            Ok(true)
+            let found = is_subsumer(alloc, d, c)?;
+            Ok(found)
         }
         How::Reduces => {
-            let from_left = row.may_reduce_left(sought);
-            let from_right = row.may_reduce_right(sought);
+            let (left, right) = shapes;
+            let from_left = are_both(left, row.may_reduce_left(sought));
+            let from_right = are_both(right, row.may_reduce_right(sought));
             let found = reduces_from(alloc, d, row.variables, from_left, from_right, c, order)?;
             Ok(found)
         }
@@ -68,15 +91,18 @@ fn is_contracting(
     name: Option<Name>,
     sought: &Row,
     kept: &Kept,
+    shapes: (bool, bool),
     order: &Order,
 ) -> Result<bool, AllocError>
     requires clause { IsWithinBounds c.now }
     requires sought { IsRow c.now sought.now }
     requires kept { IsKept kept.now }
+    requires left { shapes.0 ≡ false → (at : Spot) → at.side ≡ 0 → ¬ ReducesAt order.now kept.now.entry.clause c.now at }
+    requires right { shapes.1 ≡ false → (at : Spot) → at.side ≡ 1 → ¬ ReducesAt order.now kept.now.entry.clause c.now at }
     ensures { IfOk result (λ b. IsTrue b ↔ Contracting order.now how c.now name kept.now.entry) }
 {
     let e = &kept.entry;
-    if !contracts(alloc, how, &e.clause, &kept.row, c, sought, order)? {
+    if !contracts(alloc, how, &e.clause, &kept.row, shapes, c, sought, order)? {
         return Ok(false);
     }
     cd_key::laws::bounded_clauses();
@@ -116,7 +142,9 @@ fn first_contracting<'a>(
             continue;
         }
         let kept = kept_at(held, i);
-        if is_contracting(alloc, how, c, name, sought, kept, order)? {
+        let left = need.may_reduce_left(marks);
+        let right = need.may_reduce_right(marks);
+        if is_contracting(alloc, how, c, name, sought, kept, (left, right), order)? {
             return Ok(Some(&kept.entry));
         }
     }
@@ -220,10 +248,10 @@ fn way_of(
     requires sought { IsRow c.now sought.now }
     ensures { IfOk result (IsWay order.now d.now c.now) }
 {
-    if contracts(alloc, How::Subsumes, d, row, c, sought, order)? {
+    if contracts(alloc, How::Subsumes, d, row, (true, true), c, sought, order)? {
         return Ok(Some(How::Subsumes));
     }
-    if contracts(alloc, How::Reduces, d, row, c, sought, order)? {
+    if contracts(alloc, How::Reduces, d, row, (true, true), c, sought, order)? {
         return Ok(Some(How::Reduces));
     }
     Ok(None)

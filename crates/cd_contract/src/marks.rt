@@ -43,10 +43,8 @@ impl Marks {
     pub fn has(&self, k: u16) -> bool
         ensures { IsTrue result ↔ Marked self.now k }
     {
-        if k >= 4096 {
-            return false;
-        }
-        (self.words[usize::from(k / 64)] >> (k % 64)) & 1 == 1
+        let is_marked = (self.words[usize::from(k / 64 % 64)] >> (k % 64)) & 1 == 1;
+        is_marked && k < 4096
     }
 
     /// Marks what a symbol makes of a number and each of others.

@@ -4,7 +4,7 @@
 ghost use Rattle.std.specs.Prelude.{◌≡◌, false, None};
 ghost use Rattle.cd_clause.specs.declared.Clause.{Clause};
 ghost use Rattle.cd_kbo.specs.declared.order.Order.{Order};
-ghost use Rattle.cd_rewrite.specs.Reduction.{Reduces};
+ghost use Rattle.cd_rewrite.specs.Reduction.{Spot, ReducesAt, Reduces};
 ghost use Rattle.cd_contract.specs.Hits.{Contracts, IsWay};
 ghost use Rattle.cd_contract.specs.Marks.{Marked, BrieflyMarked, IsSought};
 ghost use Rattle.cd_contract.specs.Needs.{IsFirstShape, IsSideShape, IsNeeds};
@@ -69,15 +69,30 @@ impl Needs {
         }
     }
 
+    /// False only where no clause of these needs reduces one of the marks from its left side.
+    pub fn may_reduce_left(&self, marks: &Marks) -> bool
+        ensures { result ≡ false → (o : Order) (d : Clause) (c : Clause) → IsNeeds d self.now → IsSought c.literals (Marked marks.now) →
+            (at : Spot) → at.side ≡ 0 → ¬ ReducesAt o d c at }
+    {
+        marks.has(self.left)
+    }
+
+    /// The same of the right side.
+    pub fn may_reduce_right(&self, marks: &Marks) -> bool
+        ensures { result ≡ false → (o : Order) (d : Clause) (c : Clause) → IsNeeds d self.now → IsSought c.literals (Marked marks.now) →
+            (at : Spot) → at.side ≡ 1 → ¬ ReducesAt o d c at }
+    {
+        marks.has(self.right)
+    }
+
     /// False only where no clause of these needs reduces one of the marks.
     fn may_reduce(&self, marks: &Marks) -> bool
         ensures { result ≡ false → (o : Order) (d : Clause) (c : Clause) → IsNeeds d self.now → IsSought c.literals (Marked marks.now) →
             ¬ Reduces o d c }
     {
-        if marks.has(self.left) {
-            return true;
-        }
-        marks.has(self.right)
+        let left = marks.has(self.left);
+        let right = marks.has(self.right);
+        left || right
     }
 
     /// False only where no clause of these needs makes one of the marks superfluous in a way.

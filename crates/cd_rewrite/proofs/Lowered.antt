@@ -21,6 +21,9 @@ pub not_lowered_by_smaller : (o : Order) (from to t : Term) (s : List Term) → 
 not_lowered_by_smaller o from to t s up is =
     test_no (IsLowered o from to t s) (λ l. never_falls o from to up t (value_of s) (l.0, is, l.1))
 
+pub not_lowered_by_larger : (o : Order) (from to t : Term) (s : List Term) → (Greater o t (applied s to) → ⊥) → (IsTrue false ↔ IsLowered o from to t s)
+not_lowered_by_larger o from to t s none = test_no (IsLowered o from to t s) (λ l. none l.1)
+
 pub not_lowered_uncovered : (o : Order) (from to t : Term) (s : List Term) (b : Bool) → (IsTrue b ↔ HasVariablesOf from to) → b ≡ false →
     (IsTrue false ↔ IsLowered o from to t s)
 not_lowered_uncovered o from to t s b test out =

@@ -3,10 +3,10 @@ use Rattle.std.proofs.Common.{◌≡◌, ℕ, zero, suc, ◌-◌, ◌^◌, ◌�
 use Rattle.std.proofs.lemmas.List.Sums.{sum_by-cons}
 use Rattle.cd_term.specs.declared.Term.{Term}
 use Rattle.cd_term.specs.declared.Term.TheVariants.{Var, App}
-use Rattle.cd_term.specs.Terms.{size_of, substituted, applied, value_of, IsWithin, IsMeasure}
+use Rattle.cd_term.specs.Terms.{size_of, variables_of, substituted, applied, value_of, IsWithin, IsMeasure}
 use Rattle.cd_term.specs.Laws.{AgreementDecides}
 use Rattle.cd_term.proofs.Equations.{size_of-Var, size_of-App}
-use Rattle.cd_term.proofs.SizeLaws.{levels}
+use Rattle.cd_term.proofs.SizeLaws.{levels, size_of-substituted}
 use Rattle.cd_term.proofs.Occurrence.{substituted-agree}
 use Rattle.cd_term.proofs.VariableLaws.{agrees-substituted}
 use Rattle.cd_term.proofs.MarkLemmas.{Var-App-apart}
@@ -41,6 +41,19 @@ pub greater_weight : (o : Order) (s t : Term) → Greater o s t → weight_of o 
 greater_weight o s t (by_weight _ _ c w) = omega (arith, w)
 greater_weight o s t (by_head _ _ f g ss ts c w p q h) = omega (arith, w)
 greater_weight o s t (by_argument _ _ a b c w d g) = omega (arith, w)
+
+-- a term that weighs less than another one has symbols isn't greater than any instance of it
+no_less : (g : ℕ → Term) (ns : List ℕ) → length ns ≤ sum_by (λ n. size_of (g n)) ns
+no_less g [] = omega arith
+no_less g (n ∷ ns) = omega (arith, no_less g ns, sum_by-cons (λ k. size_of (g k)) n ns, (levels (g n)).0, (levels (g n)).1)
+
+pub too_light : (o : Order) (t to : Term) (g : ℕ → Term) → weight_of o t < size_of to → Greater o t (substituted g to) → ⊥
+too_light o t to g lt down =
+    omega (arith, lt, greater_weight o t (substituted g to) down, weight_large o (substituted g to), size_of-substituted g to, no_less g (variables_of to))
+
+pub too_light_at : (o : Order) (t to : Term) (most symbols : ℕ) → most ≡ min (weight_of o t) (2 ^ 64 - 1) → symbols ≡ min (size_of to) (2 ^ 64 - 1) → most < symbols →
+    (g : ℕ → Term) → Greater o t (substituted g to) → ⊥
+too_light_at o t to most symbols is other lt g down = too_light o t to g (omega (arith, is, other, lt)) down
 
 -- a term that is larger than what another one weighs isn't smaller
 pub too_large : (o : Order) (old new : Term) (most : ℕ) → size_of old ≤ 65535 → most ≡ min (weight_of o old) (2 ^ 64 - 1) → ¬ IsWithin most most new → Greater o old new → ⊥

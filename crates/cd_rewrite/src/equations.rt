@@ -1,7 +1,7 @@
 //! Clauses that are one positive equation, and which of its sides can reduce a term.
 #![tactic(auto)]
 
-ghost use Rattle.std.specs.Prelude.{◌≡◌, ◌↔◌, ◌⊎◌, ◌∷◌, ℕ, [], IsTrue, false, true, MatchOption};
+ghost use Rattle.std.specs.Prelude.{◌≡◌, ◌↔◌, ◌∷◌, ℕ, [], IsTrue, false, true, MatchOption};
 ghost use Rattle.cd_term.specs.declared.Term.{Term};
 ghost use Rattle.cd_term.specs.Terms.{occurs};
 ghost use Rattle.cd_clause.specs.declared.Atom.TheVariants.{Equal};
@@ -129,11 +129,4 @@ pub fn equation_of<'e>(
         from_left,
         from_right,
     }
-}
-
-/// Whether a side isn't wanted, or lowers no term.
-pub fn is_idle(wanted: bool, may_lower: bool) -> bool
-    ensures { IsTrue result → (wanted ≡ false) ⊎ (may_lower ≡ false) }
-{
-    !wanted || !may_lower
 }

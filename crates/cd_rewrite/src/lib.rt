@@ -3,6 +3,7 @@
 #![tactic(auto)]
 
 mod equations;
+mod falling;
 pub mod laws;
 mod lowering;
 mod places;

@@ -64,8 +64,21 @@ fn is_above_instance(
     Ok(greater(old, &new, order))
 }
 
+/// Whether the instance of a term has more symbols than another term weighs, and so isn't smaller.
+fn is_larger(to: &Term, s: &Subst, t: &Term, order: &Order) -> bool
+    requires { size_of t.now ≤ 65535 }
+    ensures { IsTrue result → ¬ Greater order.now t.now (applied s.now to.now) }
+{
+    let most = weight(Side::of(t), order);
+    let Some(_) = measure_applied(to, s.as_slice(), most, most) else {
+        return true;
+    };
+    false
+}
+
 /// Whether the other side has no variable of its own, and its instance is smaller than the term that is the instance of
-/// a side. Where the order knows one of the sides to be greater, so are its instances, and none is built.
+/// a side. Most instances are refused by their size. Where the order knows one of the sides to be greater, so are its
+/// instances, and none is built.
 fn is_lowered(
     alloc: Global,
     from: &Term,
@@ -78,6 +91,9 @@ fn is_lowered(
     requires matched { applied s.now from.now ≡ t.now }
     ensures { IfOk result (λ b. IsTrue b ↔ (HasVariablesOf from.now to.now × Greater order.now t.now (applied s.now to.now))) }
 {
+    if is_larger(to, s, t, order) {
+        return Ok(false);
+    }
     if is_falling(from, to, order) {
         return Ok(true);
     }
@@ -93,7 +109,7 @@ fn is_lowered(
 
 /// The substitution by which a term is an instance of a side that is greater than the same instance of the other side.
 /// The order is asked only where the term is an instance.
-fn try_side(
+pub fn try_side(
     alloc: Global,
     may_lower: bool,
     from: &Term,

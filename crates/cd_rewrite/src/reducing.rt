@@ -7,7 +7,8 @@ ghost use Rattle.cd_clause.specs.declared.Clause.{Clause};
 ghost use Rattle.cd_clause.specs.Clauses.{clause_size, variable_bound_of, IsWithinBounds};
 ghost use Rattle.cd_rewrite.specs.Reduction.{Reduces, ReducesAt, Spot, IsReduct};
 
-use crate::equations::{equation_of, is_idle, sides_of_one};
+use crate::equations::{equation_of, sides_of_one};
+use crate::falling::is_met;
 use crate::lowering::Lowering;
 use crate::places::{Place, first_place};
 use crate::rewriting::{other_side, path_of, rewritten};
@@ -28,6 +29,7 @@ pub fn reduces(alloc: Global, e: &Clause, c: &Clause, order: &Order) -> Result<b
 
 /// The same where the caller knows how many variables `e` has, and which of its sides, the left one and the right one,
 /// may reduce `c`.
+#[inline(never)]
 pub fn reduces_from(
     alloc: Global,
     e: &Clause,
@@ -49,14 +51,12 @@ pub fn reduces_from(
     let Some((left, right)) = sides_of_one(e) else {
         return Ok(false);
     };
-    let eq = equation_of(e, left, right, count);
-    if is_idle(from_left, eq.from_left) && is_idle(from_right, eq.from_right) {
-        return Ok(false);
+    let met = is_met(alloc, from_left, left, right, count, c, order)?;
+    if met {
+        return Ok(true);
     }
-    let Some(_place) = first_place(alloc, &eq, c, order)? else {
-        return Ok(false);
-    };
-    Ok(true)
+    let met = is_met(alloc, from_right, right, left, count, c, order)?;
+    Ok(met)
 }
 
 /// What an equation makes of a clause at the first place that it reduces: the side of the equation, the literal and

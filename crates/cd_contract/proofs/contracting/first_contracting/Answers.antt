@@ -4,7 +4,7 @@ use Rattle.cd_contract.specs.Needs.{HasNeeds}
 use Rattle.cd_contract.proofs.Hitting.{answers_next, answers_here, answers_end, all_read}
 use Rattle.cd_contract.specs.Rows.{IsKept}
 use Rattle.cd_contract.proofs.Columns.{step_length}
-use Rattle.cd_contract.proofs.Skipping.{answers_skip}
+use Rattle.cd_contract.proofs.Skipping.{answers_skip, beside}
 use Rattle.cd_contract.proofs.contracting.first_contracting.Goals as goal
 
 pub loop-i-preserved-then-not-may_contract : goal.loop-i-preserved-then-not-may_contract
@@ -19,6 +19,16 @@ pub is_contracting-requires-clause-kept : goal.is_contracting-requires-clause-ke
 is_contracting-requires-clause-kept c =
     all_read IsKept c.args.held.now c.loop-i.i c.kept_at-kept.result.now c.requires.kept (omega (arith, step_length HasNeeds c.args.held.now c.args.needs.now c.requires.needs))
     c.kept_at-kept.ensures
+
+pub is_contracting-requires-clause-left : goal.is_contracting-requires-clause-left
+is_contracting-requires-clause-left c = λ out.
+    c.may_reduce_left-left.ensures out c.args.order.now _ c.args.c.now
+    (beside HasNeeds c.args.held.now c.args.needs.now c.loop-i.i c.kept_at-kept.result.now _ c.requires.needs c.loop-i-test.true c.kept_at-kept.ensures) c.requires.marks
+
+pub is_contracting-requires-clause-right : goal.is_contracting-requires-clause-right
+is_contracting-requires-clause-right c = λ out.
+    c.may_reduce_right-right.ensures out c.args.order.now _ c.args.c.now
+    (beside HasNeeds c.args.held.now c.args.needs.now c.loop-i.i c.kept_at-kept.result.now _ c.requires.needs c.loop-i-test.true c.kept_at-kept.ensures) c.requires.marks
 
 pub returns-then-branch : goal.returns-then-branch
 returns-then-branch c =

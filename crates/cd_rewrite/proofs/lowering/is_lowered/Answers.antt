@@ -1,5 +1,9 @@
-use Rattle.cd_rewrite.proofs.Lowered.{lowered_by_greater, not_lowered_by_smaller, not_lowered_uncovered, lowered_by_instance}
+use Rattle.cd_rewrite.proofs.Lowered.{lowered_by_greater, not_lowered_by_smaller, not_lowered_by_larger, not_lowered_uncovered, lowered_by_instance}
 use Rattle.cd_rewrite.proofs.lowering.is_lowered.Goals as goal
+
+pub returns-then-is_larger : goal.returns-then-is_larger
+returns-then-is_larger c =
+    not_lowered_by_larger c.args.order.now c.args.from.now c.args.to.now c.args.t.now c.args.s.now (c.is_larger.ensures c.if-is_larger.true)
 
 pub returns-then-is_falling : goal.returns-then-is_falling
 returns-then-is_falling c =
