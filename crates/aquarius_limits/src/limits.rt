@@ -20,6 +20,7 @@ fn run<R: Threads + Wait + Sync>(
     file: Bytes,
 ) -> Result<(u8, Page), AllocError> {
     let mut words = Sequence::new(alloc);
+    words.push(Text::of(alloc, "--steps=50000")?)?;
     words.push(Text::of(alloc, "t.p")?)?;
     let mut library = shelf_of(alloc, file)?;
     let mut page = Page::new(alloc, 65_536, 1_000, Sequence::new(alloc))?;

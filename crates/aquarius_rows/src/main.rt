@@ -1,7 +1,7 @@
 //! Worked runs of the prover's call: reads rows from the file `rows`, and prints the status of each and the bytes
 //! that a sink took. The stored output is worked out by hand from the output format.
 //!
-//! A row begins with an at sign, and has four parts: a line with what it shows; one with the word, or none; one
+//! A row begins with an at sign, and has four parts: a line with what it shows; one with the words, or none; one
 //! with two digits, the sink's call that fails and how many bytes it still takes, or none; and, up to the next
 //! at sign, the bytes of the file `t.p`.
 #![tactic(auto)]
@@ -16,7 +16,7 @@ use std::io::{self, Write};
 use std::sync::Wait;
 use std::thread::Threads;
 
-/// What a row shows, the word, the failing call, and the bytes of the file.
+/// What a row shows, the words, the failing call, and the bytes of the file.
 type Row<'a> = (&'a str, &'a str, &'a str, &'a str);
 
 fn main(rt: HostRuntime) -> io::Result<()> {
@@ -32,15 +32,15 @@ fn main(rt: HostRuntime) -> io::Result<()> {
 
 fn row_of(part: &str) -> Option<Row<'_>> {
     let (shows, rest) = part.split_once('\n')?;
-    let (word, rest) = rest.split_once('\n')?;
+    let (words, rest) = rest.split_once('\n')?;
     let (fails, file) = rest.split_once('\n')?;
-    Some((shows, word, fails, file))
+    Some((shows, words, fails, file))
 }
 
 /// What a row shows, the status, and the bytes that a sink took.
 fn report<R: Threads + Wait + Sync>(rt: &R, alloc: Global, row: Row) -> Result<Bytes, AllocError> {
-    let (shows, word, fails, file) = row;
-    let words = words_of(alloc, word)?;
+    let (shows, words, fails, file) = row;
+    let words = words_of(alloc, words)?;
     let mut library = shelf_of(alloc, file)?;
     let mut page = page_of(alloc, fails)?;
     let outcome = prove(
@@ -54,10 +54,12 @@ fn report<R: Threads + Wait + Sync>(rt: &R, alloc: Global, row: Row) -> Result<B
     printed(alloc, shows, outcome.status, page.bytes())
 }
 
-fn words_of(alloc: Global, word: &str) -> Result<Sequence<Text>, AllocError> {
+fn words_of(alloc: Global, text: &str) -> Result<Sequence<Text>, AllocError> {
     let mut words = Sequence::new(alloc);
-    if !word.is_empty() {
-        words.push(Text::of(alloc, word)?)?;
+    for word in text.split(' ') {
+        if !word.is_empty() {
+            words.push(Text::of(alloc, word)?)?;
+        }
     }
     Ok(words)
 }

@@ -1,7 +1,6 @@
 -- Schedules: which choices there are at a moment, which of them only move the token, and how a counter leaves those out.
--- Beyond the headline: no clause of `prove` reaches is_cons, has_work, may_declare, held_declares, held_passes,
---   more_by, only_by, first_letter, is_more, is_token_only, token_choice, IsOther, IsTokenThere, IsRunning, IsPick,
---   Row.
+-- Beyond the headline: no clause of `prove` reaches is_more, is_token_only, token_choice, IsOther, IsTokenThere,
+--   IsPick, Row.
 use Rattle.std.specs.Prelude.{Bool, List, None, Option, Some, [], cond, false, find, length, not, suc, true, zero, ℕ, ◌&&◌, ◌*◌, ◌+◌, ◌<◌, ◌==◌, ◌||◌, ◌∷◌, ◌≡◌, ◌≤◌, ◌⊎◌}
 use Rattle.cd_kbo.specs.declared.order.Order.{Order}
 use Rattle.cd_ledger.specs.declared.events.Act.{Act}

@@ -1,5 +1,4 @@
 -- The generated problem: atoms of a grid that lead from its first corner to its last one.
--- Beyond the headline: no clause of `prove` reaches this file.
 use Rattle.std.specs.Prelude.{ℕ, zero, suc, ◌+◌, ◌*◌, List, [], ◌∷◌, ◌++◌, codes, Ok}
 use Rattle.cd_outside.specs.Shelf.{bytes_of}
 use Rattle.cd_read.specs.declared.problem.Problem.{Problem}

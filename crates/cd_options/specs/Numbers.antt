@@ -1,5 +1,4 @@
 -- Numbers as words spell them.
--- Beyond the headline: no clause of `prove` reaches this file.
 use Rattle.std.specs.Prelude.{◌≡◌, ◌+◌, ◌*◌, ◌-◌, ◌<◌, ◌≤◌, ◌&&◌, ℕ, Bool, true, nat_le, List, [], ◌∷◌, length}
 use Rattle.std.specs.List.{list_all}
 

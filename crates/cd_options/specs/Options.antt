@@ -1,5 +1,4 @@
 -- What words ask for.
--- Beyond the headline: no clause of `prove` reaches this file.
 use Rattle.std.specs.Prelude.{◌≡◌, ◌⊎◌, ◌<◌, ◌≤◌, ◌^◌, ℕ, List, codes, Option, Some, None}
 use Rattle.cd_names.specs.declared.ownership.Policy.{Policy}
 use Rattle.cd_names.specs.declared.ownership.Policy.TheVariants.{Round, Issuer, Size}

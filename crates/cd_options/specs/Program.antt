@@ -1,5 +1,5 @@
 -- The command, as clap's clauses see it.
--- Beyond the headline: no clause of `prove` reaches this file.
+-- Beyond the headline: no clause of `prove` reaches option_arg, file_arg, bare_program, program.
 use Rattle.std.specs.Prelude.{◌++◌, true, List, [], ◌∷◌, Some, map, codes}
 use Rattle.clap.specs.Walk.{Rule}
 use Rattle.clap.specs.Simple.{App, new_rule, new_shape}

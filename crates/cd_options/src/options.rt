@@ -1,6 +1,7 @@
 //! What words ask for.
-use cd_list::Text;
+use cd_list::{Copied, Text};
 use cd_names::Policy;
+use std::alloc::{AllocError, Global};
 use thiserror::Error;
 
 /// Where the problem comes from.
@@ -12,6 +13,15 @@ pub enum Origins {
     Grid(u32),
 }
 
+impl Copied for Origins {
+    fn copy(&self, alloc: Global) -> Result<Origins, AllocError> {
+        match self {
+            Origins::File(path) => Ok(Origins::File(path.copy(alloc)?)),
+            Origins::Grid(n) => Ok(Origins::Grid(*n)),
+        }
+    }
+}
+
 /// What the words ask for: so many peers, 1 to 64; so many rewritings and tasks for each of them, 1 to 250,000; how owners are
 /// chosen; the seed of the schedule, where one is asked for; and the problem.
 #[derive(Drop)]
@@ -21,6 +31,19 @@ pub struct Options {
     pub policy: Policy,
     pub schedule: Option<u64>,
     pub source: Origins,
+}
+
+impl Copied for Options {
+    fn copy(&self, alloc: Global) -> Result<Options, AllocError> {
+        let source = self.source.copy(alloc)?;
+        Ok(Options {
+            peers: self.peers,
+            steps: self.steps,
+            policy: self.policy,
+            schedule: self.schedule,
+            source,
+        })
+    }
 }
 
 /// Why there are no options.

@@ -1,5 +1,4 @@
 -- Whether a peer's turn would do something, and whether that is of the token alone.
--- Beyond the headline: no clause of `prove` reaches this file.
 use Rattle.std.specs.Prelude.{Bool, cond, Option}
 use Rattle.cd_ledger.specs.declared.letters.Letter.{Letter}
 use Rattle.cd_ledger.specs.declared.local.Local.{Local}

@@ -29,11 +29,6 @@ started_at p policy limits s h fit =
       run = refl;
       me = refl;
       clock = refl;
-      units = refl;
-      limits_are = refl;
-      numbered = tt;
-      next = refl;
-      says = tt;
     })
   where
     first : Local

@@ -1,4 +1,3 @@
-pub mod Acts
 pub mod Advancing
 pub mod Runs
 pub mod Steps

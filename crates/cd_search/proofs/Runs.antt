@@ -24,18 +24,10 @@ use Rattle.cd_laws.specs.Schedule.{IsSchedule, Same, Sinks, far, far_held, fresh
 use Rattle.cd_laws.proofs.Steps.{acted_me}
 use Rattle.cd_premises.specs.Runs.{AfterRun}
 use Rattle.cd_premises.proofs.Runs.{runs_are_right}
-use Rattle.std.specs.List.{AllByRecursion as Each}
-use Rattle.cd_ledger.specs.declared.events.Verdict.{Verdict}
-use Rattle.cd_ledger.specs.declared.events.Verdict.TheVariants.{Limit, Refuted, Saturated, Spent}
-use Rattle.cd_ledger.specs.declared.records.Known.{Known}
-use Rattle.cd_machine.specs.Rules.{is_empty}
-use Rattle.cd_alone.specs.Alone.{AloneRun, Emptiness, EndsEmpty, IsNotEmpty, events_of}
-use Rattle.cd_alone.proofs.Project.{runs_alone}
-use Rattle.cd_premises.proofs.Runs.{alone_runs_are_right}
-use Rattle.cd_search.specs.Recorded.{ChosenRun, has_empty, unit_count, units_of}
-use Rattle.cd_search.specs.Search.{AreNumbered, IsUnderway, VerdictSays, alone}
+use Rattle.cd_recorded.specs.Recorded.{ChosenRun}
+use Rattle.cd_recorded.proofs.Runs.{chosen_more, run_more, run_of}
+use Rattle.cd_search.specs.Search.{IsUnderway, alone}
 use Rattle.cd_search.specs.Steps.{Nearer}
-use Rattle.cd_search.proofs.Acts.{AreGiven, EndedBy, ended_by, tells}
 
 tick_most : (c : ℕ) → tick c ≤ c + 1
 tick_most c = omega arith
@@ -112,21 +104,7 @@ not_both s only more = go (first_letter s) only more
     go (Some l) o m = not_true_both (is_token l) o m
     go None o m = quiet (has_work s) (held_declares s s.token) (held_passes s s.token) o m (held_apart s.token)
 
--- ---- runs that grow on the right
-
 module _ (order : Order) (p : Problem) where
-  pub run_of : (es : List Event) (w v : World) → ChosenRun order p w es v → Run order p w es v
-  run_of [] w v r = r
-  run_of (e ∷ es) w v r = (r.0, r.1, run_of es r.0 v r.3)
-
-  run_more : (es : List Event) (w v u : World) (e : Event) → Run order p w es v → WorldStep order p v e u → Run order p w (es ++ e ∷ []) u
-  run_more [] w v u e r h = (u, subst (λ (x : World). WorldStep order p x e u) r h, refl)
-  run_more (f ∷ es) w v u e r h = (r.0, r.1, run_more es r.0 v u e r.2 h)
-
-  pub chosen_more : (es : List Event) (w v u : World) (e : Event) → ChosenRun order p w es v → WorldStep order p v e u → IsChosen order (at v e.peer) e.act → ChosenRun order p w (es ++ e ∷ []) u
-  chosen_more [] w v u e r h c = (u, subst (λ (x : World). WorldStep order p x e u) r h, subst (λ (x : World). IsChosen order (at x e.peer) e.act) r c, refl)
-  chosen_more (f ∷ es) w v u e r h c = (r.0, r.1, r.2, chosen_more es r.0 v u e r.3 h c)
-
   -- a turn of a lone peer is a step of its world
   turn_step : (s next : Local) (e : Event) (letters : List Letter) → s.me ≡ 0 → s.clock < 2 ^ 62 → IsFirstAct order s e.act → LocalStep order p s e next letters
       → WorldStep order p (alone s) e (record { locals = next ∷ []; travelling = letters })
@@ -161,24 +139,6 @@ held_few cs (Some t) = omega (arith, hops_few cs t)
 pub far_few : (s : Local) → s.waiting ≡ [] → far (alone s) ≤ 9
 far_few s none = rw none (omega (arith, held_few (s.count ∷ []) s.token))
 
--- ---- the empty clause, and units, among lists
-
-none_empty : (es : List Known) → Each IsNotEmpty es → has_empty es ≡ false
-none_empty [] h = refl
-none_empty (e ∷ es) h = rw (h.0, none_empty es h.1) refl
-
-some_empty : (es : List Known) (e : Known) → is_empty e.entry.clause ≡ true → has_empty (es ++ e ∷ []) ≡ true
-some_empty [] e h = rw h refl
-some_empty (x ∷ es) e h = elim (is_empty x.entry.clause) as (λ b. (b || has_empty (es ++ e ∷ [])) ≡ true) [ true ↦ refl | false ↦ some_empty es e h ]
-
-ends_empty : (es : List Known) → EndsEmpty es → has_empty es ≡ true
-ends_empty es h = ap has_empty h.split ∙ some_empty h.front h.last h.empty
-
-count_push : (es : List Event) (e : Event) → unit_count (es ++ e ∷ []) ≡ unit_count es + units_of e.act
-count_push [] e = omega arith
-count_push (x ∷ es) e =
-    ap (λ (n : ℕ). units_of x.act + n) (count_push es e) ∙ (let z : units_of x.act + (unit_count es + units_of e.act) ≡ units_of x.act + unit_count es + units_of e.act = omega arith in z)
-
 -- what a turn of a lone peer leads to
 pub record Turned (order : Order) (p : Problem) (policy : Policy) (limits : Limits) (s next : Local) : Type 0 where
   pub underway : IsUnderway order p policy limits next
@@ -199,12 +159,6 @@ module _ (order : Order) (p : Problem) (policy : Policy) (limits : Limits) where
       let waits = nothing_waits s u in
       let zero_is : tokens_of (s ∷ []) ≡ 0 = rw (none, waits) refl in
       omega (arith, one, zero_is)
-
-  -- the empty clause is known where the verdict says so, and nowhere else
-  emptiness : (start s : Local) (es : List Event) → IsStart p policy limits (alone start) → Run order p (alone start) es (alone s) → Emptiness s.verdict s.known
-  emptiness start s es starts run =
-      let own : AloneRun order p (at (alone start) 0) (events_of 0 es) (at (alone s) 0) = runs_alone order p policy limits (alone start) (alone s) es starts run 0 (omega arith) in
-      (alone_runs_are_right order p start s (events_of 0 es) own).lawful.emptiness
 
   -- a turn is a choice of a schedule whose counter is full, so that no token moves where anything else is left to be done
   pick_of : (s next : Local) (e : Event) → e.peer ≡ 0 → s.verdict ≡ None → IsFirstAct order s e.act → WorldStep order p (alone s) e (alone next)
@@ -236,26 +190,6 @@ module _ (order : Order) (p : Problem) (policy : Policy) (limits : Limits) where
       go (inl ended) = inl (subst (λ (k : ℕ). (at (alone next) k).verdict ≡ None → ⊥) here ended)
       go (inr x) = inr (no_room d (alone next) (alone s) refl x)
 
-  -- what the verdict says, by the act that brought it
-  says_of : (s next : Local) (u : IsUnderway order p policy limits s) (e : Event) → e.peer ≡ 0 → next.journal ≡ s.journal ++ e ∷ [] → next.units ≡ s.units + units_of e.act → next.limits ≡ s.limits
-      → WorldStep order p (alone s) e (alone next) → Emptiness next.verdict next.known → (v : Option Verdict) → next.verdict ≡ v → ((w : Verdict) → v ≡ Some w → EndedBy order s e.act w)
-      → AfterRun order p s.journal (alone s) → VerdictSays order p u.start next v
-  says_of s next u e here journal units limits_are step empty None is by all = tt
-  says_of s next u e here journal units limits_are step empty (Some Refuted) is by all = ends_empty next.known (subst (λ (o : Option Verdict). Emptiness o next.known) is empty)
-  says_of s next u e here journal units limits_are step empty (Some Saturated) is by all =
-      (none_empty next.known (subst (λ (o : Option Verdict). Emptiness o next.known) is empty), (all.declares e (alone next) step (by Saturated refl)).closed)
-  says_of s next u e here journal units limits_are step empty (Some Spent) is by all =
-      let x = by Spent refl in (
-        none_empty next.known (subst (λ (o : Option Verdict). Emptiness o next.known) is empty),
-        units ∙ (let z : s.units + units_of e.act ≡ s.units + 0 = ap (λ (a : Act). s.units + units_of a) x.0 in z) ∙ (let z : s.units + 0 ≡ s.units = omega arith in z) ∙ x.1 ∙ sym (ap (λ (l : Limits). l.steps) limits_are),
-        record { front = s.journal; event = e; split = journal; last = x.0 },
-      )
-  says_of s next u e here journal units limits_are step empty (Some (Limit b)) is by all =
-      let x = by (Limit b) refl in (
-        none_empty next.known (subst (λ (o : Option Verdict). Emptiness o next.known) is empty),
-        record { front = s.journal; event = e; rest = []; split = journal; own = here; act = x.0; world = alone s; run = u.run; reached = x.1 },
-      )
-
   pub turned : (s next : Local) (letters : List Letter) → IsUnderway order p policy limits s → length s.journal < 2 ^ 62 → s.verdict ≡ None → IsTurn order p s next letters → (letters ≡ []) × Turned order p policy limits s next
   turned s next letters u small running t =
       let e : Event = t.event in
@@ -270,13 +204,7 @@ module _ (order : Order) (p : Problem) (policy : Policy) (limits : Limits) where
       let effect : next ≡ after s e t.step.found = t.step.effect in
       let journal : next.journal ≡ s.journal ++ e ∷ [] = ap (λ (x : Local). x.journal) effect in
       let time : e.time ≡ tick s.clock = t.step.legal.time ∙ tick_of order s e.act t.first in
-      let chosen : IsChosen order (at (alone s) e.peer) e.act = pick.chosen in
-      let quiet : s.waiting ≡ [] = (all.laws.lone refl).1 in
-      let given : AreGiven s.known s.next_seq = record { numbered = u.numbered; count = u.next } in
-      let told = tells order p s given u.me quiet e.act t.step.found t.step.legal.fits in
-      let units : next.units ≡ s.units + units_of e.act = ap (λ (x : Local). x.units) effect ∙ told.units_are in
-      let limits_are : next.limits ≡ s.limits = ap (λ (x : Local). x.limits) effect ∙ told.limits_are in
-      let after_it : Run order p (alone u.start) (s.journal ++ e ∷ []) (alone next) = run_more order p s.journal (alone u.start) (alone s) (alone next) e run world in (
+      let chosen : IsChosen order (at (alone s) e.peer) e.act = pick.chosen in (
         none,
         record {
           underway = record {
@@ -285,12 +213,6 @@ module _ (order : Order) (p : Problem) (policy : Policy) (limits : Limits) where
             run = subst (λ (es : List Event). ChosenRun order p (alone u.start) es (alone next)) (sym journal) (chosen_more order p s.journal (alone u.start) (alone s) (alone next) e u.run world chosen);
             me = ap (λ (x : Local). x.me) effect ∙ (acted_me s e.act t.step.found).0 ∙ u.me;
             clock = ap (λ (x : Local). x.clock) effect ∙ time ∙ tick_is s.clock (omega (arith, small, u.clock)) ∙ clock_of s.journal e s.clock u.clock ∙ ap length (sym journal);
-            units = ap unit_count journal ∙ count_push s.journal e ∙ ap (λ (n : ℕ). n + units_of e.act) u.units ∙ sym units;
-            limits_are = limits_are ∙ u.limits_are;
-            numbered = subst (AreNumbered 0) (sym (ap (λ (x : Local). x.known) effect)) told.given.numbered;
-            next = ap (λ (x : Local). x.next_seq) effect ∙ told.given.count ∙ ap (λ (x : Local). length x.known) (sym effect);
-            says = says_of s next u e here journal units limits_are world (emptiness u.start next (s.journal ++ e ∷ []) u.starting.starts after_it) next.verdict refl
-                (λ w is. ended_by order p s running quiet e.act t.step.found t.step.legal.fits w (sym (ap (λ (x : Local). x.verdict) effect) ∙ is)) all;
           };
           nearer = nearer_of s next e (cond (is_token_only s) 5 0) (all.schedule pick.running) pick here;
         },

@@ -1,15 +1,15 @@
 -- What the top call promises of its answer.
-use Rattle.std.specs.Prelude.{◌≡◌, ℕ, ◌+◌, ◌⊎◌, ⊤, Bool, true, false, ◌&&◌, ◌==◌, if◌then◌else◌, List, [], ◌∷◌, ◌++◌, length, map, sum_by, filter_map, Option, None, Some, IsPermutation}
+use Rattle.std.specs.Prelude.{◌≡◌, ℕ, ◌+◌, ◌⊎◌, ⊤, Bool, true, false, if◌then◌else◌, List, [], ◌∷◌, ◌++◌, length, map, sum_by, Option, None, Some}
 use Rattle.std.specs.Io.KnownBytes.{Appends}
 use Rattle.std.specs.List.{flat_map}
-use Rattle.std.specs.List.Sorted.{IsStrictlySortedBy}
 use Rattle.std.specs.declared.result.Result.TheVariants.{Ok}
 use Rattle.cd_clause.specs.Truth.{HaveNoModel}
-use Rattle.cd_names.specs.Orders.{name_cmp}
-use Rattle.cd_names.specs.declared.names.Name.{Name}
-use Rattle.cd_names.specs.declared.ownership.Policy.TheVariants.{Round}
 use Rattle.cd_outside.specs.Outside.{AppendsFront, Gives}
 use Rattle.cd_read.specs.declared.problem.Problem.{Problem}
+use Rattle.cd_options.specs.Grid.{IsGrid}
+use Rattle.cd_options.specs.declared.options.Options.{Options}
+use Rattle.cd_options.specs.declared.options.Origins.{Origins}
+use Rattle.cd_options.specs.declared.options.Origins.TheVariants as origin
 use Rattle.cd_read.specs.Files.{File, Reads}
 use Rattle.cd_read.specs.Fetched.{Told, Holds, GaveWhole, IsReadFault}
 use Rattle.cd_read.specs.declared.reader.ReadFault.{ReadFault}
@@ -22,22 +22,23 @@ use Rattle.cd_ledger.specs.declared.events.Event.{Event}
 use Rattle.cd_ledger.specs.declared.events.Verdict.{Verdict}
 use Rattle.cd_ledger.specs.declared.events.Verdict.TheVariants as verdict
 use Rattle.cd_ledger.specs.declared.local.Local.{Local}
-use Rattle.cd_ledger.specs.declared.records.Known.{Known}
 use Rattle.cd_ledger.specs.declared.records.Record.{Record}
-use Rattle.cd_ledger.specs.Statuses.{is_held}
 use Rattle.cd_machine.specs.Carried.{IsClosed, held_by}
 use Rattle.cd_machine.specs.Rules.{clauses_of}
-use Rattle.cd_machine.specs.World.{Run, World}
+use Rattle.cd_machine.specs.World.{Run, World, at}
 use Rattle.cd_laws.specs.Statements.{ArePeersContracted, AreTasksAccounted, CarriesModels, HaveSameModels}
 use Rattle.cd_peer.specs.Plain.{plain}
-use Rattle.cd_search.specs.Recorded.{AreStarting, ChosenRun, EndsWith, MeetsBound, has_empty, journal_of, recorded, unit_count}
+use Rattle.cd_recorded.specs.Live.{AreLive}
+use Rattle.cd_recorded.specs.Recorded.{AreStarting, ChosenRun, EndsWith, MeetsBound, has_empty, journal_of, recorded, unit_count}
+use Rattle.cd_world.specs.Schedule.{Scheduled}
 use Rattle.cd_build.specs.Derivation.{IsDerivation}
 use Rattle.cd_top.specs.declared.answer.Answer.{Answer}
 use Rattle.cd_top.specs.declared.answer.Answer.TheVariants.{Refuted, Saturated, Spent, Limit, Usage, Refused, LibraryFault, SinkFault, Memory}
 use Rattle.cd_top.specs.declared.answer.Account.{Account}
 use Rattle.cd_report.specs.Pieces.{pieces_of, StopsInLine}
 use Rattle.cd_report.specs.Texts.{usage_text, refused_text, unread_text}
-use Rattle.cd_top.specs.Texts.{refuted_text, saturated_text, spent_text, limit_text}
+use Rattle.cd_top.specs.Asked.{grid_asked, seed_of}
+use Rattle.cd_top.specs.Texts.{refuted_text, refuted_by, saturated_by, spent_by, limit_by}
 
 -- ---- the exit status
 
@@ -52,37 +53,44 @@ status_of (LibraryFault path) = 66
 status_of Memory = 71
 status_of SinkFault = 74
 
--- ---- words and files
+-- ---- files
 
--- the words name a file: from it on, the files that were told are read as this problem, each of them whole where the library tells what it
--- holds
-pub record IsProblemRead (word : Option (List ℕ)) (holds : Holds) (before now : Told) (p : Problem) : Type 0 where
-  pub path : List ℕ
-  pub word_is : word ≡ Some path
-  pub files : List File
-  pub told : GaveWhole holds before now files
-  pub reads : Reads files path (Ok p)
+-- the file with this path, and those that it includes, are read as this problem, each of them whole where the library tells what it
+-- holds; or it is a generated one, and nothing is told
+abbrev pub IsProblemOf : Origins → Holds → Told → Told → Problem → Type 0
+IsProblemOf (origin.File path) holds before now p = (files : List File) × GaveWhole holds before now files × Reads files path (Ok p)
+IsProblemOf (origin.Grid n) holds before now p = IsGrid n p × Gives before now []
+
+abbrev pub IsProblemAsked : Option Options → Holds → Told → Told → Problem → Type 0
+IsProblemAsked None holds before now p = ⊥
+IsProblemAsked (Some o) holds before now p = IsProblemOf o.source holds before now p
 
 -- and the account has it
-abbrev pub IsProblemTaken : Option (List ℕ) → Holds → Told → Told → Option Problem → Type 0
-IsProblemTaken word holds before now problem = (p : Problem) × (problem ≡ Some p) × IsProblemRead word holds before now p
+abbrev pub IsProblemTaken : Option Options → Holds → Told → Told → Option Problem → Type 0
+IsProblemTaken asked holds before now None = ⊥
+IsProblemTaken asked holds before now (Some p) = IsProblemAsked asked holds before now p
 
--- the words name a file, and from it on there is no problem for this cause
-abbrev pub IsUnread : Option (List ℕ) → Holds → Told → Told → ReadFault → Type 0
-IsUnread word holds before now fault = (path : List ℕ) × (word ≡ Some path) × IsReadFault path holds before now fault
+-- a file was asked for, and from it on there is no problem for this cause
+abbrev pub IsUnreadOf : Origins → Holds → Told → Told → ReadFault → Type 0
+IsUnreadOf (origin.File path) holds before now fault = IsReadFault path holds before now fault
+IsUnreadOf (origin.Grid n) holds before now fault = ⊥
+
+abbrev pub IsUnread : Option Options → Holds → Told → Told → ReadFault → Type 0
+IsUnread None holds before now fault = ⊥
+IsUnread (Some o) holds before now fault = IsUnreadOf o.source holds before now fault
 
 -- what was told of the files, in the order of their fetches, and the problem, are those of the answer: the files have that fault first, or
 -- that one is needed next, or they are the problem. Want of memory is free
-abbrev pub IsRead : Option (List ℕ) → Holds → Told → Told → Answer → Option Problem → Type 0
-IsRead word holds before now Usage problem = (word ≡ None) × (problem ≡ None) × Gives before now []
-IsRead word holds before now (Refused w) problem = (problem ≡ None) × IsUnread word holds before now (failure.Wrong w)
-IsRead word holds before now (LibraryFault path) problem = (problem ≡ None) × IsUnread word holds before now (failure.Library path)
-IsRead word holds before now Memory problem = problem ≡ None
-IsRead word holds before now SinkFault problem = ⊥
-IsRead word holds before now (Refuted peer) problem = IsProblemTaken word holds before now problem
-IsRead word holds before now Saturated problem = IsProblemTaken word holds before now problem
-IsRead word holds before now (Spent peer) problem = IsProblemTaken word holds before now problem
-IsRead word holds before now (Limit peer b) problem = IsProblemTaken word holds before now problem
+abbrev pub IsRead : Option Options → Holds → Told → Told → Answer → Option Problem → Type 0
+IsRead asked holds before now Usage problem = (problem ≡ None) × Gives before now []
+IsRead asked holds before now (Refused w) problem = (problem ≡ None) × IsUnread asked holds before now (failure.Wrong w)
+IsRead asked holds before now (LibraryFault path) problem = (problem ≡ None) × IsUnread asked holds before now (failure.Library path)
+IsRead asked holds before now Memory problem = problem ≡ None
+IsRead asked holds before now SinkFault problem = ⊥
+IsRead asked holds before now (Refuted peer) problem = IsProblemTaken asked holds before now problem
+IsRead asked holds before now Saturated problem = IsProblemTaken asked holds before now problem
+IsRead asked holds before now (Spent peer) problem = IsProblemTaken asked holds before now problem
+IsRead asked holds before now (Limit peer b) problem = IsProblemTaken asked holds before now problem
 
 abbrev pub IsLibraryFault : Answer → Type 0
 IsLibraryFault (LibraryFault path) = ⊤
@@ -97,21 +105,21 @@ IsLibraryFault Memory = ⊥
 
 -- ---- the recorded run
 
--- one peer, which rewrites and does tasks at most 50,000 times together
-pub record HasDefaults (account : Account) : Type 0 where
-  pub peers : account.peers ≡ 1
-  pub policy : account.policy ≡ Round
-  pub limits : account.limits ≡ record { steps = 50000 }
-
 -- the account's peers at the start of the problem
 abbrev pub IsFirst : Account → Problem → World → Type 0
 IsFirst account p first = AreStarting p account.peers account.policy account.limits first
 
+-- the events are those of the stated schedule, where there is one
+abbrev pub FollowsSeed : Option ℕ → Problem → World → List Event → World → Type 0
+FollowsSeed None p first events w = ⊤
+FollowsSeed (Some seed) p first events w = Scheduled plain p seed first events w
+
 -- the account's journals, taken in the account's order, lead from the start to this world by events that the peers' order of choices names,
--- and are used up; the order has an entry for each of their events
+-- as the schedule says, and are used up; the order has an entry for each of their events
 pub record IsRecorded (account : Account) (p : Problem) (first w : World) : Type 0 where
   pub starts : IsFirst account p first
   pub run : ChosenRun plain p first (recorded account.journals account.order) w
+  pub schedule : FollowsSeed (seed_of account.asked) p first (recorded account.journals account.order) w
   pub journals : map journal_of w.locals ≡ account.journals
   pub order : length account.order ≡ sum_by length account.journals
 
@@ -133,26 +141,23 @@ AccountsForAll p w = AreTasksAccounted plain p w
 abbrev pub IsContracted : Problem → World → Type 0
 IsContracted p w = ArePeersContracted plain w
 
--- the least peer that knows the empty clause, peers being counted from k, and its state
-abbrev pub least_refuted : ℕ → List Local → Option (ℕ × Local)
-least_refuted k [] = None
-least_refuted k (s ∷ ss) = if has_empty s.known then Some (k, s) else least_refuted (k + 1) ss
+-- the least peer of which this holds, peers being counted from k
+abbrev pub least : (Local → Bool) → ℕ → List Local → Option ℕ
+least holds k [] = None
+least holds k (s ∷ ss) = if holds s then Some k else least holds (k + 1) ss
 
-abbrev pub bound_of : Option Verdict → Option Bound
-bound_of None = None
-bound_of (Some verdict.Refuted) = None
-bound_of (Some verdict.Saturated) = None
-bound_of (Some verdict.Spent) = None
-bound_of (Some (verdict.Limit b)) = Some b
+abbrev pub knows_empty : Local → Bool
+knows_empty s = has_empty s.known
 
-abbrev pub or_later : ℕ → Option Bound → Option (ℕ × Bound) → Option (ℕ × Bound)
-or_later k None later = later
-or_later k (Some b) later = Some (k, b)
+abbrev pub is_limit : Option Verdict → Bool
+is_limit None = false
+is_limit (Some verdict.Refuted) = false
+is_limit (Some verdict.Saturated) = false
+is_limit (Some verdict.Spent) = false
+is_limit (Some (verdict.Limit b)) = true
 
--- the least peer that ended at a bound, and the bound
-abbrev pub least_bound : ℕ → List Local → Option (ℕ × Bound)
-least_bound k [] = None
-least_bound k (s ∷ ss) = or_later k (bound_of s.verdict) (least_bound (k + 1) ss)
+abbrev pub met_bound : Local → Bool
+met_bound s = is_limit s.verdict
 
 abbrev pub is_spent : Option Verdict → Bool
 is_spent None = false
@@ -161,63 +166,45 @@ is_spent (Some verdict.Saturated) = false
 is_spent (Some verdict.Spent) = true
 is_spent (Some (verdict.Limit b)) = false
 
--- the least peer that has used its units
-abbrev pub least_spent : ℕ → List Local → Option (ℕ × Local)
-least_spent k [] = None
-least_spent k (s ∷ ss) = if is_spent s.verdict then Some (k, s) else least_spent (k + 1) ss
+abbrev pub used_units : Local → Bool
+used_units s = is_spent s.verdict
 
--- the empty clause is known, to this peer as the least: its derivation is printed, and the text is accepted
+-- the empty clause is known, to this peer as the least: the text of its derivation is accepted, and printed where the problem isn't a
+-- generated one
 pub record EndsRefuted (account : Account) (p : Problem) (w : World) (peer : ℕ) : Type 0 where
-  pub state : Local
-  pub least : least_refuted 0 w.locals ≡ Some (peer, state)
+  pub is_least : least knows_empty 0 w.locals ≡ Some peer
   pub lines : List Line
-  pub derivation : IsDerivation p state lines
-  pub text : account.text ≡ refuted_text p lines
-  pub accepted : AcceptedText p account.text
-
--- the record of an entry that its owner holds
-abbrev pub live_record : ℕ → Known → Option Record
-live_record me e = if is_held e && (e.entry.owner == me) then Some e.entry else None
-
-abbrev pub live_records : Local → List Record
-live_records s = filter_map (live_record s.me) s.known
-
-abbrev pub name_of : Record → Name
-name_of r = r.name
-
--- these are the records of all live names, in the order of names
-pub record AreLive (w : World) (rs : List Record) : Type 0 where
-  pub live : IsPermutation (flat_map live_records w.locals) rs
-  pub ordered : IsStrictlySortedBy name_cmp (map name_of rs)
+  pub derivation : IsDerivation p (at w peer) lines
+  pub accepted : AcceptedText p (refuted_text p lines)
+  pub text : account.text ≡ refuted_by (grid_asked account.asked) p lines
 
 -- the empty clause is not known, no peer ended at a limit, and nothing travels, waits, is pending or is owed: the live clauses are printed, and
 -- have exactly the finite models of the problem's clauses
 pub record EndsSaturated (account : Account) (p : Problem) (w : World) : Type 0 where
-  pub none : least_refuted 0 w.locals ≡ None
-  pub no_bound : least_bound 0 w.locals ≡ None
-  pub unspent : least_spent 0 w.locals ≡ None
+  pub none : least knows_empty 0 w.locals ≡ None
+  pub no_bound : least met_bound 0 w.locals ≡ None
+  pub unspent : least used_units 0 w.locals ≡ None
   pub closed : IsClosed w
   pub records : List Record
   pub live : AreLive w records
-  pub text : account.text ≡ saturated_text p account.peers records
+  pub text : account.text ≡ saturated_by (grid_asked account.asked) p account.peers records
   pub models : HaveSameModels (flat_map held_by w.locals) (clauses_of p)
 
 -- the empty clause is not known, no peer met a bound, and this peer is the least that used all its units and ended there
 pub record EndsSpent (account : Account) (p : Problem) (w : World) (peer : ℕ) : Type 0 where
-  pub none : least_refuted 0 w.locals ≡ None
-  pub no_bound : least_bound 0 w.locals ≡ None
-  pub state : Local
-  pub least : least_spent 0 w.locals ≡ Some (peer, state)
-  pub units : unit_count state.journal ≡ account.limits.steps
-  pub ends : EndsWith state.journal (End verdict.Spent)
-  pub text : account.text ≡ spent_text p peer account.limits.steps
+  pub none : least knows_empty 0 w.locals ≡ None
+  pub no_bound : least met_bound 0 w.locals ≡ None
+  pub is_least : least used_units 0 w.locals ≡ Some peer
+  pub units : unit_count (at w peer).journal ≡ account.limits.steps
+  pub ends : EndsWith (at w peer).journal (End verdict.Spent)
+  pub text : account.text ≡ spent_by (grid_asked account.asked) p peer account.limits.steps
 
 -- the empty clause is not known, and this peer is the least that ended at a bound; it had reached it there
 pub record EndsAtBound (account : Account) (p : Problem) (first w : World) (peer : ℕ) (bound : Bound) : Type 0 where
-  pub none : least_refuted 0 w.locals ≡ None
-  pub least : least_bound 0 w.locals ≡ Some (peer, bound)
+  pub none : least knows_empty 0 w.locals ≡ None
+  pub is_least : least met_bound 0 w.locals ≡ Some peer
   pub meets : MeetsBound plain p first (recorded account.journals account.order) peer bound
-  pub text : account.text ≡ limit_text p peer bound
+  pub text : account.text ≡ limit_by (grid_asked account.asked) p peer bound
 
 -- with a problem read, the answer has its cause in the world at the end of the recorded run, and the text is the answer's
 abbrev pub EndsIn : Account → Problem → World → World → Answer → Type 0

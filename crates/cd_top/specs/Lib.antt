@@ -1,4 +1,6 @@
-pub mod Words
-pub mod Texts
+pub mod Asked
 pub mod Headline
 pub mod Ends
+pub mod Finding
+pub mod Running
+pub mod Texts

@@ -1,5 +1,5 @@
 -- The text of each answer.
-use Rattle.std.specs.Prelude.{ℕ, List, [], ◌∷◌, ◌++◌, length, codes}
+use Rattle.std.specs.Prelude.{ℕ, List, [], ◌∷◌, ◌++◌, length, codes, Option, None, Some}
 use Rattle.std.specs.List.{flat_map}
 use Rattle.cd_symbols.specs.Symbol.{Symbol}
 use Rattle.cd_read.specs.declared.problem.Problem.{Problem}
@@ -63,3 +63,28 @@ limit_line peer bound = codes "% aquarius limit, peer " ++ (numeral peer ++ (cod
 
 unfoldable pub limit_text : Problem → ℕ → Bound → List ℕ
 limit_text p peer bound = with_feed (codes "% SZS status ResourceOut for " ++ shown p.name) ++ with_feed (limit_line peer bound)
+
+-- ---- generated problems: of each answer the status and a word
+
+unfoldable pub grid_line : ℕ → List ℕ → List ℕ
+grid_line n word = codes "% aquarius grid " ++ (numeral n ++ (codes ", answer " ++ word))
+
+unfoldable pub grid_text : Problem → ℕ → List ℕ → List ℕ → List ℕ
+grid_text p n status word = with_feed (status ++ shown p.name) ++ with_feed (grid_line n word)
+
+-- the text, or for a generated problem that of its number
+abbrev pub text_by : Option ℕ → Problem → List ℕ → List ℕ → List ℕ → List ℕ
+text_by None p status word text = text
+text_by (Some n) p status word text = grid_text p n status word
+
+abbrev pub refuted_by : Option ℕ → Problem → List Line → List ℕ
+refuted_by grid p lines = text_by grid p (codes "% SZS status Unsatisfiable for ") (codes "refuted") (refuted_text p lines)
+
+abbrev pub saturated_by : Option ℕ → Problem → ℕ → List Record → List ℕ
+saturated_by grid p peers held = text_by grid p (codes "% SZS status GaveUp for ") (codes "saturated") (saturated_text p peers held)
+
+abbrev pub spent_by : Option ℕ → Problem → ℕ → ℕ → List ℕ
+spent_by grid p peer units = text_by grid p (codes "% SZS status ResourceOut for ") (codes "spent") (spent_text p peer units)
+
+abbrev pub limit_by : Option ℕ → Problem → ℕ → Bound → List ℕ
+limit_by grid p peer bound = text_by grid p (codes "% SZS status ResourceOut for ") (codes "limit") (limit_text p peer bound)

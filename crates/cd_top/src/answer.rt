@@ -2,10 +2,12 @@
 ghost use Rattle.std.specs.Prelude.{◌≡◌};
 
 use cd_ledger::{Bound, Journals, Limits};
-use cd_list::{Copied, Sequence, Text};
+use cd_list::{Copied, Text};
 use cd_names::Policy;
+use cd_options::Options;
 use cd_outside::Bytes;
 use cd_read::{Problem, Wrong};
+use cd_world::Turns;
 use std::alloc::{AllocError, Global};
 
 /// How a call ended.
@@ -19,7 +21,7 @@ pub enum Answer {
     Spent { peer: u16 },
     /// A peer met a bound that no option moves; `peer` is the least such peer.
     Limit { peer: u16, bound: Bound },
-    /// The words aren't one path.
+    /// The words ask for nothing that can be had: they aren't in the grammar, or ask for more than one peer without a schedule.
     Usage,
     /// A file isn't as it should be.
     Refused(Wrong),
@@ -74,13 +76,12 @@ impl Copied for Answer {
     }
 }
 
-/// The numbers of peers, one for each event of a run.
-pub type Turns = Sequence<u16>;
-
-/// What a call leaves to be looked at: the problem that was read, the journal of each peer, the peer of each
-/// event in the order of the run, and the text that was to be written.
+/// What a call leaves to be looked at: what it was asked for, the problem that was read or made, so many peers with this policy
+/// and these limits, the journal of each peer, the peer of each event in the order of the run, and the text that was to be
+/// written.
 #[derive(Drop)]
 pub struct Account {
+    pub asked: Option<Options>,
     pub problem: Option<Problem>,
     pub peers: u16,
     pub policy: Policy,

@@ -1,17 +1,18 @@
-//! The call that the program makes.
-ghost use Rattle.std.specs.Prelude.{◌≡◌, ℕ, List, [], Option, None, Some, IfOk};
-ghost use Rattle.std.specs.Option.{option_copied};
+//! The call that the program makes, and its two kin.
+ghost use Rattle.std.specs.Prelude.{◌≡◌, ◌≢◌, ◌⊎◌, ℕ, List, [], None, Some, IfOk, IfErr};
 ghost use Rattle.cd_outside.specs.Outside.{Rose};
 ghost use Rattle.cd_read.specs.Formed.{IsFormed, IsBounded};
-ghost use Rattle.cd_top.specs.Ends.{IsUnreadAnswer, HasNoRun, IsSolved, IsMade};
-ghost use Rattle.cd_top.specs.Words.{file_word, begins_with_hyphen};
-ghost use Rattle.cd_top.specs.Headline.{status_of, IsRead, IsLibraryFault, HasDefaults, RunEnds, AtEachMoment, HasModelsOf, AccountsForAll, IsContracted, Refutes, TextIs, Taken, TakenByLines, IsAnswerTo};
+ghost use Rattle.cd_read.specs.Fetched.{IsOfLibrary};
+ghost use Rattle.cd_top.specs.Asked.{AreWordsOf, HasOptions, HasValues, IsAsked, IsInRange, MayRun};
+ghost use Rattle.cd_top.specs.Ends.{HasNoRun, IsEmptyAccount, IsForgotten, IsKept, IsMade, IsUnreadAnswer, IsUnsolved};
+ghost use Rattle.cd_top.specs.Headline.{status_of, IsProblemOf, IsUnreadOf, IsRead, IsLibraryFault, RunEnds, AtEachMoment, HasModelsOf, AccountsForAll, IsContracted, Refutes, TextIs, Taken, TakenByLines, IsAnswerTo};
 
 use crate::answer::{Account, Answer, ProveOutcome};
-use crate::solving::{STEPS, solve};
+use crate::solving::solve;
 use cd_ledger::Limits;
 use cd_list::{Copied, Sequence, Text};
 use cd_names::Policy;
+use cd_options::{Options, Origins, WordsFault, grid_problem, read_words};
 use cd_outside::{Bytes, Gate, Library, Sink};
 use cd_read::{Problem, ReadFault, read_problem};
 use cd_report::{refused_text, send, unread_text, usage_text};
@@ -19,8 +20,11 @@ use std::alloc::{AllocError, Global};
 use std::sync::Wait;
 use std::thread::Threads;
 
-/// Reads the file that the words name, searches for a refutation, and writes what came of it. The words are
-/// those behind the program's name. So far one peer runs, and the gate isn't entered.
+/// How many rewritings and tasks a peer may do together where no words say so.
+const STEPS: u64 = 200_000;
+
+/// Reads the words behind the program's name, reads or makes the problem that they name, runs the peers that they ask for, and
+/// writes what came of it. So far several peers run by a stated schedule alone, and the gate isn't entered.
 ///
 /// The library and the sink say by their counts when they failed, and may tell what they gave and took.
 pub fn prove<R: Threads + Wait + Sync, L: Library, K: Sink, G: Gate + Sync>(
@@ -31,13 +35,16 @@ pub fn prove<R: Threads + Wait + Sync, L: Library, K: Sink, G: Gate + Sync>(
     sink: &mut K,
     _gate: &G,
 ) -> ProveOutcome
-    // The words name a file: it and the files that it includes spell the problem, or have this fault first.
-    ensures read { IsRead (file_word words.now) (L.holds library.old) (L.told library.old) (L.told library.new) result.made result.account.problem }
+    // The words are in the grammar, and the account has what they ask for. They name a file, which spells the problem with those
+    // that it includes, or has this fault first; or a generated problem.
+    ensures words { AreWordsOf words.now result.made result.account.asked }
+    ensures options { HasOptions result.account result.account.asked }
+    ensures read { IsRead result.account.asked (L.holds library.old) (L.told library.old) (L.told library.new) result.made result.account.problem }
     ensures library_fault { IsLibraryFault result.made → Rose (L.faults library.old) (L.faults library.new) }
 
-    // The recorded run is one peer's, each event the one that the order of choices names. It ends where the answer says, it
-    // keeps the models of the problem, accounts for each inference, and holds nothing superfluous; and a refutation is one.
-    ensures defaults { HasDefaults result.account }
+    // The recorded run is that of all peers, each event the one that the order of choices names, by the stated schedule where there
+    // is one. It ends where the answer says, it keeps the models of the problem, accounts for each inference, and holds nothing
+    // superfluous; and a refutation is one.
     ensures run { RunEnds result.account result.made result.account.problem }
     ensures models { AtEachMoment HasModelsOf result.account result.account.problem }
     ensures accounted { AtEachMoment AccountsForAll result.account result.account.problem }
@@ -53,9 +60,126 @@ pub fn prove<R: Threads + Wait + Sync, L: Library, K: Sink, G: Gate + Sync>(
     ensures answer { IsAnswerTo result.made result.answer }
     ensures status { result.status ≡ status_of result.answer }
 {
-    let Ok((made, account)) = make(alloc, words, library) else {
-        return without_memory(alloc);
+    let options = match read_words(alloc, words) {
+        Ok(options) => options,
+        Err(WordsFault::Usage) => return usage(alloc, sink),
+        Err(WordsFault::Memory) => return without_memory(alloc),
     };
+    if options.schedule.is_some() {
+        return prove_scheduled(alloc, &options, library, sink);
+    }
+    if options.peers == 1 {
+        return prove_alone(alloc, &options, library, sink);
+    }
+    usage(alloc, sink)
+}
+
+/// Runs one peer alone on the problem that the options name, and writes what came of it. It always returns.
+pub fn prove_alone<L: Library, K: Sink>(
+    alloc: Global,
+    options: &Options,
+    library: &mut L,
+    sink: &mut K,
+) -> ProveOutcome
+    requires may { MayRun options.now }
+    requires one { options.now.peers ≡ 1 }
+    requires free { options.now.schedule ≡ None }
+    ensures asked { IsAsked options.now result.made result.account.asked }
+    ensures options { HasOptions result.account result.account.asked }
+    ensures read { IsRead result.account.asked (L.holds library.old) (L.told library.old) (L.told library.new) result.made result.account.problem }
+    ensures library_fault { IsLibraryFault result.made → Rose (L.faults library.old) (L.faults library.new) }
+    ensures run { RunEnds result.account result.made result.account.problem }
+    ensures models { AtEachMoment HasModelsOf result.account result.account.problem }
+    ensures accounted { AtEachMoment AccountsForAll result.account result.account.problem }
+    ensures contracted { AtEachMoment IsContracted result.account result.account.problem }
+    ensures refutes { Refutes result.made result.account.problem }
+    ensures text { TextIs result.made result.account.text }
+    ensures taken { Taken result.answer (K.taken sink.old) (K.taken sink.new) result.account.text }
+    ensures pieces { TakenByLines result.answer (K.taken sink.old) (K.taken sink.new) (K.pieces sink.old) (K.pieces sink.new) result.account.text }
+    ensures sink_fault { result.answer ≡ Answer.SinkFault → Rose (K.faults sink.old) (K.faults sink.new) }
+    ensures answer { IsAnswerTo result.made result.answer }
+    ensures status { result.status ≡ status_of result.answer }
+{
+    proved(alloc, options, library, sink)
+}
+
+/// Runs the peers by the stated schedule on the problem that the options name, and writes what came of it. It always returns.
+pub fn prove_scheduled<L: Library, K: Sink>(
+    alloc: Global,
+    options: &Options,
+    library: &mut L,
+    sink: &mut K,
+) -> ProveOutcome
+    requires may { MayRun options.now }
+    requires stated { options.now.schedule ≢ None }
+    ensures asked { IsAsked options.now result.made result.account.asked }
+    ensures options { HasOptions result.account result.account.asked }
+    ensures read { IsRead result.account.asked (L.holds library.old) (L.told library.old) (L.told library.new) result.made result.account.problem }
+    ensures library_fault { IsLibraryFault result.made → Rose (L.faults library.old) (L.faults library.new) }
+    ensures run { RunEnds result.account result.made result.account.problem }
+    ensures models { AtEachMoment HasModelsOf result.account result.account.problem }
+    ensures accounted { AtEachMoment AccountsForAll result.account result.account.problem }
+    ensures contracted { AtEachMoment IsContracted result.account result.account.problem }
+    ensures refutes { Refutes result.made result.account.problem }
+    ensures text { TextIs result.made result.account.text }
+    ensures taken { Taken result.answer (K.taken sink.old) (K.taken sink.new) result.account.text }
+    ensures pieces { TakenByLines result.answer (K.taken sink.old) (K.taken sink.new) (K.pieces sink.old) (K.pieces sink.new) result.account.text }
+    ensures sink_fault { result.answer ≡ Answer.SinkFault → Rose (K.faults sink.old) (K.faults sink.new) }
+    ensures answer { IsAnswerTo result.made result.answer }
+    ensures status { result.status ≡ status_of result.answer }
+{
+    proved(alloc, options, library, sink)
+}
+
+// The peers run as the options ask.
+fn proved<L: Library, K: Sink>(
+    alloc: Global,
+    options: &Options,
+    library: &mut L,
+    sink: &mut K,
+) -> ProveOutcome
+    requires may { MayRun options.now }
+    requires alone { options.now.schedule ≡ None → options.now.peers ≡ 1 }
+    ensures made { IsMade options.now (L.holds library.old) (L.told library.old) (L.told library.new) (Rose (L.faults library.old) (L.faults library.new)) result.made result.account }
+    ensures taken { Taken result.answer (K.taken sink.old) (K.taken sink.new) result.account.text }
+    ensures pieces { TakenByLines result.answer (K.taken sink.old) (K.taken sink.new) (K.pieces sink.old) (K.pieces sink.new) result.account.text }
+    ensures sink_fault { result.answer ≡ Answer.SinkFault → Rose (K.faults sink.old) (K.faults sink.new) }
+    ensures answer { IsAnswerTo result.made result.answer }
+    ensures status { result.status ≡ status_of result.answer }
+{
+    match make(alloc, options, library) {
+        Err(_) => without_memory(alloc),
+        Ok((made, account)) => written(alloc, made, account, sink),
+    }
+}
+
+// The answer to words that ask for nothing that can be had.
+fn usage<K: Sink>(alloc: Global, sink: &mut K) -> ProveOutcome
+    ensures account { IsEmptyAccount result.account }
+    ensures made { (result.made ≡ Answer.Usage) ⊎ (result.made ≡ Answer.Memory) }
+    ensures text { TextIs result.made result.account.text }
+    ensures taken { Taken result.answer (K.taken sink.old) (K.taken sink.new) result.account.text }
+    ensures pieces { TakenByLines result.answer (K.taken sink.old) (K.taken sink.new) (K.pieces sink.old) (K.pieces sink.new) result.account.text }
+    ensures sink_fault { result.answer ≡ Answer.SinkFault → Rose (K.faults sink.old) (K.faults sink.new) }
+    ensures answer { IsAnswerTo result.made result.answer }
+    ensures status { result.status ≡ status_of result.answer }
+{
+    match usage_text(alloc) {
+        Err(_) => without_memory(alloc),
+        Ok(text) => written(alloc, Answer::Usage, empty_account(alloc, text), sink),
+    }
+}
+
+// Writes the text of an answer.
+fn written<K: Sink>(alloc: Global, made: Answer, account: Account, sink: &mut K) -> ProveOutcome
+    requires first { made ≢ Answer.SinkFault }
+    ensures kept { IsKept made account result.made result.account }
+    ensures taken { Taken result.answer (K.taken sink.old) (K.taken sink.new) result.account.text }
+    ensures pieces { TakenByLines result.answer (K.taken sink.old) (K.taken sink.new) (K.pieces sink.old) (K.pieces sink.new) result.account.text }
+    ensures sink_fault { result.answer ≡ Answer.SinkFault → Rose (K.faults sink.old) (K.faults sink.new) }
+    ensures answer { IsAnswerTo result.made result.answer }
+    ensures status { result.status ≡ status_of result.answer }
+{
     let Ok(copy) = made.copy(alloc) else {
         return without_memory(alloc);
     };
@@ -72,31 +196,24 @@ pub fn prove<R: Threads + Wait + Sync, L: Library, K: Sink, G: Gate + Sync>(
 }
 
 fn without_memory(alloc: Global) -> ProveOutcome
-    ensures made { result.made ≡ Answer.Memory }
+    ensures forgotten { IsForgotten result.made result.account }
     ensures answer { result.answer ≡ Answer.Memory }
     ensures status { result.status ≡ 71 }
-    ensures text { result.account.text ≡ [] }
-    ensures problem { result.account.problem ≡ None }
-    ensures journals { result.account.journals ≡ [] }
-    ensures order { result.account.order ≡ [] }
-    ensures defaults { HasDefaults result.account }
 {
     ProveOutcome {
         status: 71,
         answer: Answer::Memory,
         made: Answer::Memory,
-        account: without_run(alloc, Sequence::new(alloc)),
+        account: empty_account(alloc, Sequence::new(alloc)),
     }
 }
 
-fn without_run(alloc: Global, text: Bytes) -> Account
+fn empty_account(alloc: Global, text: Bytes) -> Account
     ensures text { result.text ≡ text }
-    ensures problem { result.problem ≡ None }
-    ensures journals { result.journals ≡ [] }
-    ensures order { result.order ≡ [] }
-    ensures defaults { HasDefaults result }
+    ensures empty { IsEmptyAccount result }
 {
     Account {
+        asked: None,
         problem: None,
         peers: 1,
         policy: Policy::Round,
@@ -107,93 +224,87 @@ fn without_run(alloc: Global, text: Bytes) -> Account
     }
 }
 
-fn file_word(words: &[Text]) -> Option<&Text>
-    ensures { option_copied result ≡ file_word words.now }
-{
-    match words {
-        [word] => {
-            if begins_with_hyphen(word.as_bytes()) {
-                None
-            } else {
-                Some(word)
-            }
-        }
-        _ => None,
-    }
-}
-
 // Everything before the first write.
 fn make<L: Library>(
     alloc: Global,
-    words: &[Text],
+    options: &Options,
     library: &mut L,
 ) -> Result<(Answer, Account), AllocError>
-    ensures { IfOk result (λ r. IsMade (file_word words.now) (L.holds library.old) (L.told library.old) (L.told library.new) (Rose (L.faults library.old) (L.faults library.new)) r.0 r.1) }
+    requires may { MayRun options.now }
+    requires alone { options.now.schedule ≡ None → options.now.peers ≡ 1 }
+    ensures made { IfOk result (λ r. IsMade options.now (L.holds library.old) (L.told library.old) (L.told library.new) (Rose (L.faults library.old) (L.faults library.new)) r.0 r.1) }
+    ensures first { IfOk result (λ r. r.0 ≢ Answer.SinkFault) }
 {
-    match file_word(words) {
-        None => usage(alloc),
-        Some(path) => from_file(alloc, library, path),
+    match problem_of(alloc, library, &options.source) {
+        Err(fault) => unread(alloc, options, fault),
+        Ok(problem) => solve(alloc, options, problem),
     }
 }
 
-// The answer to words that are no path.
-fn usage(alloc: Global) -> Result<(Answer, Account), AllocError>
-    ensures answer { IfOk result (λ r. r.0 ≡ Answer.Usage) }
-    ensures text { IfOk result (λ r. TextIs r.0 r.1.text) }
-    ensures alone { IfOk result (λ r. HasNoRun r.1) }
-{
-    let text = usage_text(alloc)?;
-    Ok((Answer::Usage, without_run(alloc, text)))
-}
-
-// The answer to the file with this path.
-fn from_file<L: Library>(
+// The problem of a file, or a generated one.
+fn problem_of<L: Library>(
     alloc: Global,
     library: &mut L,
-    path: &Text,
-) -> Result<(Answer, Account), AllocError>
-    ensures { IfOk result (λ r. (word : Option (List ℕ)) → word ≡ Some path.now
-        → IsMade word (L.holds library.old) (L.told library.old) (L.told library.new) (Rose (L.faults library.old) (L.faults library.new)) r.0 r.1) }
+    source: &Origins,
+) -> Result<Problem, ReadFault>
+    requires { IsInRange source.now }
+    ensures problem { IfOk result (IsProblemOf source.now (L.holds library.old) (L.told library.old) (L.told library.new)) }
+    ensures formed { IfOk result IsFormed }
+    ensures bounded { IfOk result IsBounded }
+    ensures fault { IfErr result (λ f. f ≢ ReadFault.Memory → IsUnreadOf source.now (L.holds library.old) (L.told library.old) (L.told library.new) f) }
+    ensures library { IfErr result (λ f. IsOfLibrary f → Rose (L.faults library.old) (L.faults library.new)) }
 {
-    match read_problem(alloc, library, path) {
-        Err(fault) => unread(alloc, fault),
-        Ok(problem) => solved(alloc, problem),
+    match source {
+        Origins::File(path) => read_problem(alloc, library, path),
+        Origins::Grid(n) => match grid_problem(alloc, *n) {
+            Ok(problem) => Ok(problem),
+            Err(_) => Err(ReadFault::Memory),
+        },
     }
 }
 
 // The answer where there is no problem.
-fn unread(alloc: Global, fault: ReadFault) -> Result<(Answer, Account), AllocError>
+fn unread(
+    alloc: Global,
+    options: &Options,
+    fault: ReadFault,
+) -> Result<(Answer, Account), AllocError>
     ensures answer { IfOk result (λ r. IsUnreadAnswer fault r.0) }
-    ensures text { IfOk result (λ r. TextIs r.0 r.1.text) }
-    ensures alone { IfOk result (λ r. HasNoRun r.1) }
+    ensures alone { IfOk result (λ r. IsUnsolved options.now r.0 r.1) }
 {
     match fault {
         ReadFault::Memory => Err(AllocError),
         ReadFault::Library { path } => {
             let text = unread_text(alloc, &path)?;
-            Ok((Answer::LibraryFault { path }, without_run(alloc, text)))
+            let account = unsolved(alloc, options, text)?;
+            Ok((Answer::LibraryFault { path }, account))
         }
         ReadFault::Wrong(wrong) => {
             let text = refused_text(alloc, &wrong)?;
-            Ok((Answer::Refused(wrong), without_run(alloc, text)))
+            let account = unsolved(alloc, options, text)?;
+            Ok((Answer::Refused(wrong), account))
         }
     }
 }
 
-// The answer to a problem.
-fn solved(alloc: Global, problem: Problem) -> Result<(Answer, Account), AllocError>
-    requires formed { IsFormed problem }
-    requires bounded { IsBounded problem }
-    ensures { IfOk result (λ r. IsSolved problem r.0 r.1) }
+// The account of options without a problem.
+fn unsolved(alloc: Global, options: &Options, text: Bytes) -> Result<Account, AllocError>
+    ensures text { IfOk result (λ a. a.text ≡ text) }
+    ensures alone { IfOk result HasNoRun }
+    ensures asked { IfOk result (λ a. a.asked ≡ Some options.now) }
+    ensures values { IfOk result (λ a. HasValues a options.now) }
 {
-    solve(alloc, problem)
-}
-
-fn begins_with_hyphen(word: &[u8]) -> bool
-    ensures { result ≡ begins_with_hyphen word.now }
-{
-    match word {
-        [b'-', ..] => true,
-        _ => false,
-    }
+    let asked = options.copy(alloc)?;
+    Ok(Account {
+        asked: Some(asked),
+        problem: None,
+        peers: options.peers,
+        policy: options.policy,
+        limits: Limits {
+            steps: options.steps,
+        },
+        journals: Sequence::new(alloc),
+        order: Sequence::new(alloc),
+        text,
+    })
 }

@@ -1,13 +1,10 @@
 //! The text of each answer.
-ghost use Rattle.std.specs.Prelude.{◌≡◌, ◌++◌, [], ◌∷◌, filter_map, length, IfOk, OnOk};
+ghost use Rattle.std.specs.Prelude.{◌≡◌, ◌++◌, map, IfOk, OnOk};
 ghost use Rattle.std.specs.List.{flat_map};
-ghost use Rattle.std.specs.Option.{option_copied};
 ghost use Rattle.cd_text.specs.Texts.{shown};
-ghost use Rattle.cd_top.specs.Headline.{live_record};
-ghost use Rattle.cd_top.specs.Texts.{with_feed, lines_text, refuted_text, held_line, counts_line, saturated_text, spent_line, spent_text, bound_word, limit_line, limit_text};
+ghost use Rattle.cd_top.specs.Texts.{with_feed, lines_text, refuted_text, refuted_by, held_line, counts_line, saturated_text, saturated_by, spent_line, spent_text, spent_by, bound_word, limit_line, limit_text, limit_by, grid_line, grid_text};
 
-use cd_acts::state::holds;
-use cd_ledger::{Bound, Known, Record};
+use cd_ledger::{Bound, Record};
 use cd_list::Sequence;
 use cd_outside::Bytes;
 use cd_read::Problem;
@@ -15,9 +12,30 @@ use cd_symbols::Symbols;
 use cd_text::{Line, clause_text, line_text, put_number, put_shown};
 use std::alloc::{AllocError, Global};
 
-/// The lines of a derivation between the lines that say what they are.
+/// The lines of a derivation between the lines that say what they are; of a generated problem, that it is refuted.
+pub fn refuted_by(
+    alloc: Global,
+    grid: Option<u32>,
+    problem: &Problem,
+    lines: &[Line],
+) -> Result<Bytes, AllocError>
+    ensures { IfOk result (λ text. text ≡ refuted_by grid problem.now lines.now) }
+{
+    match grid {
+        None => refuted_text(alloc, problem, lines),
+        Some(n) => grid_text(
+            alloc,
+            problem,
+            n,
+            b"% SZS status Unsatisfiable for ",
+            b"refuted",
+        ),
+    }
+}
+
+// The lines of a derivation between the lines that say what they are.
 #[tactic(auto, using(std::proofs::Common::append_assoc), unfolding(crate::specs::Texts::refuted_text))]
-pub fn refuted_text(alloc: Global, problem: &Problem, lines: &[Line]) -> Result<Bytes, AllocError>
+fn refuted_text(alloc: Global, problem: &Problem, lines: &[Line]) -> Result<Bytes, AllocError>
     ensures { IfOk result (λ text. text ≡ refuted_text problem.now lines.now) }
 {
     let mut text = Sequence::new(alloc);
@@ -51,47 +69,39 @@ fn put_lines(into: &mut Bytes, symbols: &Symbols, lines: &[Line]) -> Result<(), 
     Ok(())
 }
 
-/// The clauses that peer `me` owns and holds, by their names in the order in which they became known.
+/// These clauses by their names, in their order; of a generated problem, that the peers are saturated.
+pub fn saturated_by(
+    alloc: Global,
+    grid: Option<u32>,
+    problem: &Problem,
+    peers: u16,
+    live: &[&Record],
+) -> Result<Bytes, AllocError>
+    ensures { IfOk result (λ text. text ≡ saturated_by grid problem.now peers (map (λ r. r.now) live.now)) }
+{
+    match grid {
+        None => saturated_text(alloc, problem, peers, live),
+        Some(n) => grid_text(alloc, problem, n, b"% SZS status GaveUp for ", b"saturated"),
+    }
+}
+
+// These clauses by their names, in their order.
 #[tactic(auto, using(std::proofs::Common::append_assoc), unfolding(crate::specs::Texts::saturated_text))]
-pub fn saturated_text(
+fn saturated_text(
     alloc: Global,
     problem: &Problem,
-    me: u16,
-    known: &[Known],
+    peers: u16,
+    live: &[&Record],
 ) -> Result<Bytes, AllocError>
-    ensures { IfOk result (λ text. text ≡ saturated_text problem.now 1 (filter_map (live_record me) known.now)) }
+    ensures { IfOk result (λ text. text ≡ saturated_text problem.now peers (map (λ r. r.now) live.now)) }
 {
-    let live = live_count(me, known);
     let mut text = Sequence::new(alloc);
     put_named(&mut text, b"% SZS status GaveUp for ", problem)?;
-    put_counts(&mut text, 1, live)?;
+    put_counts(&mut text, u64::from(peers), live.len() as u64)?;
     text.extend(b"% aquarius list start\n")?;
-    put_held(&mut text, &problem.symbols, me, known)?;
+    put_held(&mut text, &problem.symbols, live)?;
     text.extend(b"% aquarius list end\n")?;
     Ok(text)
-}
-
-// The record, where its owner holds it.
-fn live_record(me: u16, known: &Known) -> Option<&Record>
-    ensures { option_copied result ≡ live_record me known.now }
-{
-    if holds(&known.status) && known.entry.owner == me {
-        Some(&known.entry)
-    } else {
-        None
-    }
-}
-
-fn live_count(me: u16, known: &[Known]) -> u64
-    ensures { result ≡ length (filter_map (live_record me) known.now) }
-{
-    let mut count = 0u64;
-    for e in known {
-        if live_record(me, e).is_some() {
-            count += 1;
-        }
-    }
-    count
 }
 
 #[tactic(auto, using(std::proofs::Common::append_assoc), unfolding(crate::specs::Texts::counts_line))]
@@ -106,14 +116,12 @@ fn put_counts(into: &mut Bytes, peers: u64, clauses: u64) -> Result<(), AllocErr
 }
 
 #[tactic(auto, using(std::proofs::Common::append_assoc))]
-fn put_held(into: &mut Bytes, symbols: &Symbols, me: u16, known: &[Known]) -> Result<(), AllocError>
-    ensures { OnOk result (into.new ≡ into.old ++ flat_map (λ r. with_feed (held_line symbols.now r)) (filter_map (live_record me) known.now)) }
+fn put_held(into: &mut Bytes, symbols: &Symbols, live: &[&Record]) -> Result<(), AllocError>
+    ensures { OnOk result (into.new ≡ into.old ++ flat_map (λ r. with_feed (held_line symbols.now r)) (map (λ r. r.now) live.now)) }
 {
-    let mut rest = known;
+    let mut rest = live;
     while let [first, after @ ..] = rest {
-        if let Some(record_) = live_record(me, first) {
-            put_record(into, symbols, record_)?;
-        }
+        put_record(into, symbols, first)?;
         rest = after;
     }
     Ok(())
@@ -132,14 +140,31 @@ fn put_record(into: &mut Bytes, symbols: &Symbols, record_: &Record) -> Result<(
     into.extend(b").\n")
 }
 
-/// That the peer made as many rewritings and tasks as it may.
-#[tactic(auto, using(std::proofs::Common::append_assoc), unfolding(crate::specs::Texts::spent_text))]
-pub fn spent_text(
+/// That the peer made as many rewritings and tasks as it may; of a generated problem, that a peer did.
+pub fn spent_by(
     alloc: Global,
+    grid: Option<u32>,
     problem: &Problem,
     peer: u16,
     units: u64,
 ) -> Result<Bytes, AllocError>
+    ensures { IfOk result (λ text. text ≡ spent_by grid problem.now peer units) }
+{
+    match grid {
+        None => spent_text(alloc, problem, peer, units),
+        Some(n) => grid_text(
+            alloc,
+            problem,
+            n,
+            b"% SZS status ResourceOut for ",
+            b"spent",
+        ),
+    }
+}
+
+// That the peer made as many rewritings and tasks as it may.
+#[tactic(auto, using(std::proofs::Common::append_assoc), unfolding(crate::specs::Texts::spent_text))]
+fn spent_text(alloc: Global, problem: &Problem, peer: u16, units: u64) -> Result<Bytes, AllocError>
     ensures { IfOk result (λ text. text ≡ spent_text problem.now peer units) }
 {
     let mut text = Sequence::new(alloc);
@@ -159,9 +184,31 @@ fn put_spent(into: &mut Bytes, peer: u64, units: u64) -> Result<(), AllocError>
     into.extend(b"\n")
 }
 
-/// That the peer met a bound.
+/// That the peer met a bound; of a generated problem, that a peer did.
+pub fn limit_by(
+    alloc: Global,
+    grid: Option<u32>,
+    problem: &Problem,
+    peer: u16,
+    bound: Bound,
+) -> Result<Bytes, AllocError>
+    ensures { IfOk result (λ text. text ≡ limit_by grid problem.now peer bound) }
+{
+    match grid {
+        None => limit_text(alloc, problem, peer, bound),
+        Some(n) => grid_text(
+            alloc,
+            problem,
+            n,
+            b"% SZS status ResourceOut for ",
+            b"limit",
+        ),
+    }
+}
+
+// That the peer met a bound.
 #[tactic(auto, using(std::proofs::Common::append_assoc), unfolding(crate::specs::Texts::limit_text))]
-pub fn limit_text(
+fn limit_text(
     alloc: Global,
     problem: &Problem,
     peer: u16,
@@ -193,4 +240,32 @@ fn put_bound(into: &mut Bytes, bound: Bound) -> Result<(), AllocError>
         Bound::Bounds => into.extend(b"bounds"),
         Bound::Names => into.extend(b"names"),
     }
+}
+
+// Of a generated problem, the status and a word.
+#[tactic(auto, using(std::proofs::Common::append_assoc), unfolding(crate::specs::Texts::grid_text))]
+fn grid_text(
+    alloc: Global,
+    problem: &Problem,
+    n: u32,
+    status: &[u8],
+    word: &[u8],
+) -> Result<Bytes, AllocError>
+    ensures { IfOk result (λ text. text ≡ grid_text problem.now n status.now word.now) }
+{
+    let mut text = Sequence::new(alloc);
+    put_named(&mut text, status, problem)?;
+    put_grid(&mut text, u64::from(n), word)?;
+    Ok(text)
+}
+
+#[tactic(auto, using(std::proofs::Common::append_assoc), unfolding(crate::specs::Texts::grid_line))]
+fn put_grid(into: &mut Bytes, n: u64, word: &[u8]) -> Result<(), AllocError>
+    ensures { OnOk result (into.new ≡ into.old ++ with_feed (grid_line n word.now)) }
+{
+    into.extend(b"% aquarius grid ")?;
+    put_number(into, n)?;
+    into.extend(b", answer ")?;
+    into.extend(word)?;
+    into.extend(b"\n")
 }

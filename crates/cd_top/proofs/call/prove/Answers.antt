@@ -1,29 +1,12 @@
-use Rattle.cd_top.proofs.Ending.{keeps_models, accounts_for_all, is_contracted}
+use Rattle.std.proofs.Common.{Err, ap, inl, sym, ◌∙◌}
+use Rattle.cd_top.proofs.Reading.{is_free, needs_threads, usage_words}
 use Rattle.cd_top.proofs.call.prove.Goals as goal
 
-pub returns-clause-models : goal.returns-clause-models
-returns-clause-models g c = keeps_models c.in-Ok.account c.in-Ok.account.problem
+pub returns-in-Err-Usage-clause-words : goal.returns-in-Err-Usage-clause-words
+returns-in-Err-Usage-clause-words g c =
+    usage_words c.args.words.now c.usage.result.made c.usage.result.account.asked c.usage.ensures.account.asked (inl ((c.in-Err-Usage.ensures {u = tt}).usage (ap Err c.in-Err-Usage.field-0-is))) c.usage.ensures.made
 
-pub returns-clause-accounted : goal.returns-clause-accounted
-returns-clause-accounted g c = accounts_for_all c.in-Ok.account c.in-Ok.account.problem
-
-pub returns-clause-read : goal.returns-clause-read
-returns-clause-read g c = c.in-Ok.ensures.read
-
-pub returns-clause-contracted : goal.returns-clause-contracted
-returns-clause-contracted g c = is_contracted c.in-Ok.account c.in-Ok.account.problem
-
-pub returns-clause-library_fault : goal.returns-clause-library_fault
-returns-clause-library_fault g c = c.in-Ok.ensures.library
-
-pub returns-clause-defaults : goal.returns-clause-defaults
-returns-clause-defaults g c = c.in-Ok.ensures.sound.defaults
-
-pub returns-clause-run : goal.returns-clause-run
-returns-clause-run g c = c.in-Ok.ensures.sound.run
-
-pub returns-clause-refutes : goal.returns-clause-refutes
-returns-clause-refutes g c = c.in-Ok.ensures.sound.refutes
-
-pub returns-clause-text : goal.returns-clause-text
-returns-clause-text g c = c.in-Ok.ensures.sound.text
+pub returns-clause-words : goal.returns-clause-words
+returns-clause-words g c =
+    usage_words c.args.words.now c.usage-2.result.made c.usage-2.result.account.asked c.usage-2.ensures.account.asked
+    (needs_threads c.args.words.now c.in-Ok.options (c.in-Ok.ensures {u = tt}).ok (is_free c.in-Ok.options.schedule (sym c.is_some.ensures ∙ c.if-is_some.false)) c.if-options-eq1.false) c.usage-2.ensures.made

@@ -1,37 +1,26 @@
-use Rattle.std.proofs.Common.{◌≡◌, ◌∷◌, [], Some, length, replicate, List, sym, ap, ◌∙◌, refl, subst, rules}
-use Rattle.cd_text.specs.declared.line.Line.{Line}
+use Rattle.std.proofs.Common.{◌<◌, ◌^◌, Some, sym, subst, length, map}
 use Rattle.cd_acts.specs.View.{local_of}
-use Rattle.cd_build.specs.Derivation.{IsDerivation}
-use Rattle.cd_ledger.specs.declared.events.Event.{Event}
-use Rattle.cd_ledger.specs.declared.events.Verdict.TheVariants.{Refuted}
-use Rattle.cd_names.specs.declared.ownership.Policy.TheVariants.{Round}
-use Rattle.cd_alone.specs.Going.{Going}
 use Rattle.cd_peer.specs.Plain.{plain}
-use Rattle.cd_read.specs.declared.problem.Problem.{Problem}
-use Rattle.cd_search.specs.Search.{IsFinished}
-use Rattle.cd_top.specs.declared.answer.Account.{Account}
-use Rattle.cd_top.specs.declared.answer.Answer.{Answer}
-use Rattle.cd_top.specs.Headline.{RunEnds}
+use Rattle.cd_top.specs.Ends.{IsSolved, IsTold}
 use Rattle.cd_top.proofs.Accepting.{text_accepted}
-use Rattle.cd_top.proofs.Ending.{IsAccountOf, fifty_thousand, run_ends, run_refutes}
+use Rattle.cd_top.proofs.Ending.{DerivationsAreAccepted, RunLaws, account_of, solved_is}
+use Rattle.cd_top.proofs.Runs.{few_states}
 use Rattle.cd_top.proofs.solving.solve.Goals as goal
 
-pub returns-clause-run : goal.returns-clause-run
-returns-clause-run c =
-    let s = local_of c.into_state-state.result in
-    let p = c.args.problem in
-    let a : Account = record { problem = Some p; peers = 1; policy = Round; limits = record { steps = 50000 }; journals = c.push.new.self; order = c.in_ok-order.order; text = c.in_ok-text.text } in
-    let journals : c.push.new.self ≡ s.journal ∷ [] = search rules in
-    let events : c.as_slice.result.now ≡ s.journal = c.as_slice.ensures ∙ c.journal_of-journal.ensures in
-    let order = c.in_ok-order.ensures ∙ ap (λ (es : List Event). replicate (length es) 0) events in
-    let account : IsAccountOf a p s = record { defaults = record { peers = refl; policy = refl; limits = refl }; journals = journals; order = order; text = c.in_ok-text.ensures } in
-    let going : Going plain p s = subst (λ (q : Problem). Going plain q s) c.in_ok-peer.ensures.problem (c.into_state-state.ensures.whole c.in_ok-peer.ensures.standing).going in
-    let done : IsFinished plain p Round fifty_thousand s = subst (IsFinished plain p Round fifty_thousand) (sym c.into_state-state.ensures.local) c.in_ok-peer.ensures.finished in
-    let accepted = λ (refuted : s.verdict ≡ Some Refuted) (lines : List Line) (derivation : IsDerivation p s lines).
-    text_accepted c.refutations_are_accepted.ensures p lines (c.derivations_refute.ensures plain p s lines c.requires.formed going refuted derivation) in
-    subst (λ (m : Answer). RunEnds a m (Some p)) (sym c.answer_of-answer.ensures) (run_ends a p s done account accepted)
+pub told-requires-clause-few : goal.told-requires-clause-few
+told-requires-clause-few c =
+    subst (λ ss. length ss < 2 ^ 16) (sym c.deref.ensures.value)
+    (few_states c.args.options.now c.args.problem c.in_ok-states.field-0.states.items c.in_ok-states.field-0.order
+    (subst (λ n. n < 2 ^ 16) c.peers_of-peers.ensures c.peers_of-peers.type_inv) (c.in_ok-states.ensures {u = tt}))
 
-pub returns-clause-refutes : goal.returns-clause-refutes
-returns-clause-refutes c =
-    let a : Account = record { problem = Some c.args.problem; peers = 1; policy = Round; limits = record { steps = 50000 }; journals = c.push.new.self; order = c.in_ok-order.order; text = c.in_ok-text.text } in
-    run_refutes a c.answer_of-answer.result c.args.problem (returns-clause-run c)
+pub returns : goal.returns
+returns c =
+    let p = c.args.problem in
+    let laws : RunLaws = record { chosen = c.chosen_are_runs.ensures; say = c.runs_say.ensures; journalled = c.runs_are_journalled.ensures; live = c.live_names_are_one.ensures } in
+    let accepts : DerivationsAreAccepted p = λ s lines going refuted derivation. text_accepted c.refutations_are_accepted.ensures p lines (c.derivations_refute.ensures plain p s lines c.requires.formed going refuted derivation) in
+    let order = c.in_ok-states.field-0.order in
+    subst (λ n. IsSolved c.args.options.now p c.in_ok-answer.answer
+    (record (account_of c.args.options.now p c.in_ok-journals.journals order c.in_ok-answer.text) { asked = Some c.in_ok-asked.asked; peers = n })) (sym c.peers_of-peers.ensures)
+    (solved_is laws c.args.options.now c.in_ok-asked.asked p accepts c.in_ok-states.field-0.states.items order (c.in_ok-states.ensures {u = tt}) (c.in_ok-asked.ensures {u = tt})
+    c.in_ok-journals.journals (c.in_ok-journals.ensures {u = tt}) c.in_ok-answer.answer c.in_ok-answer.text
+    (subst (λ ss. IsTold c.args.options.now p (map local_of ss) c.in_ok-answer.answer c.in_ok-answer.text) c.deref.ensures.value (c.in_ok-answer.ensures {u = tt})))

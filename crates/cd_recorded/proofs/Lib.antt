@@ -1,0 +1,5 @@
+pub mod Runs
+mod Acts
+mod Says
+mod Journals
+mod Names

@@ -1,0 +1,3 @@
+pub mod Recorded
+pub mod Live
+pub mod Laws

@@ -1,0 +1,14 @@
+use Rattle.std.proofs.Common.{◌≡◌, ◌+◌, length, map}
+use Rattle.cd_acts.specs.View.{local_of}
+use Rattle.cd_top.specs.Finding.{ended_as}
+use Rattle.cd_top.specs.Headline.{least}
+use Rattle.cd_top.proofs.finding.least.Given as goal
+
+abbrev pub invariant-loop-rest : goal.invariant-loop-rest
+invariant-loop-rest l = record {
+  so_far : least (ended_as l.ending) l.peer (map local_of l.rest) ≡ least (ended_as l.ending) 0 (map local_of l.states);
+  places : l.peer + length l.rest ≡ length l.states;
+}
+
+abbrev pub decreases-loop-rest : goal.decreases-loop-rest
+decreases-loop-rest l = length l.rest
