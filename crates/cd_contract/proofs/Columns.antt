@@ -1,8 +1,10 @@
 -- Columns that stand in step.
-use Rattle.std.proofs.Common.{◌≡◌, ℕ, zero, suc, ◌<◌, List, [], ◌∷◌, ◌++◌, length, get_or, remove, subst, refl, sym, arith}
+use Rattle.std.proofs.Common.{◌<◌, ◌≤◌, ◌+◌, take, get_or, ap, ◌∙◌, ◌≡◌, ℕ, zero, suc, List, [], ◌∷◌, ◌++◌, length, remove, subst, refl, sym, arith}
+use Rattle.std.proofs.lemmas.List.{take_more, take_all}
 use Rattle.cd_clause.specs.declared.Clause.{Clause}
 use Rattle.cd_clause.specs.Clauses.{IsWithinBounds}
 use Rattle.cd_names.specs.declared.names.Name.{Name}
+use Rattle.cd_kbo.specs.declared.order.Order.{Order}
 use Rattle.cd_contract.specs.declared.held.Kept.{Kept}
 use Rattle.cd_contract.specs.declared.held.Entry.{Entry}
 use Rattle.cd_contract.specs.declared.rows.Row.{Row}
@@ -57,27 +59,37 @@ kept_less [] (suc i) all = tt
 kept_less (k ∷ ks) zero all = all.1
 kept_less (k ∷ ks) (suc i) all = (all.0, kept_less ks i all.1)
 
-pub columns_more : (ks ls : List Kept) (ns bs : List Needs) (ms ds : List Brief) (d c : Clause) (name : Name) (row : Row) (n : Needs) (m : Brief) → AreColumns ks ns ms →
-    ls ≡ ks ++ record { entry = record { name = name; clause = d }; row = row } ∷ [] → bs ≡ ns ++ n ∷ [] → ds ≡ ms ++ m ∷ [] → d ≡ c → IsWithinBounds c → IsRow c row → IsNeeds c n →
-    IsSought c.literals (BrieflyMarked m) → AreColumns ls bs ds
-columns_more ks ls ns bs ms ds d c name row n m are more needed marked same within counts needs sought =
-    subst (λ x. AreColumns x bs ds) (sym more) (subst (λ y. AreColumns (ks ++ new ∷ []) y ds) (sym needed) (subst (AreColumns (ks ++ new ∷ []) (ns ++ n ∷ [])) (sym marked) (record {
+pub columns_more : (o : Order) (ks ls : List Kept) (ns bs : List Needs) (ms ds : List Brief) (d c : Clause) (name : Name) (row : Row) (n : Needs) (m : Brief) → AreColumns o ks ns ms →
+    ls ≡ ks ++ record { entry = record { name = name; clause = d }; row = row } ∷ [] → bs ≡ ns ++ n ∷ [] → ds ≡ ms ++ m ∷ [] → d ≡ c → IsWithinBounds c → IsRow c row → IsNeeds o c n →
+    IsSought c.literals (BrieflyMarked m) → AreColumns o ls bs ds
+columns_more o ks ls ns bs ms ds d c name row n m are more needed marked same within counts needs sought =
+    subst (λ x. AreColumns o x bs ds) (sym more) (subst (λ y. AreColumns o (ks ++ new ∷ []) y ds) (sym needed) (subst (AreColumns o (ks ++ new ∷ []) (ns ++ n ∷ [])) (sym marked) (record {
       kept = kept_more ks new are.kept (record {
         within = subst IsWithinBounds (sym same) within;
         row = subst (λ x. IsRow x row) (sym same) counts;
       });
-      needs = step_more HasNeeds ks ns new n are.needs (subst (λ x. IsNeeds x n) (sym same) needs);
+      needs = step_more (HasNeeds o) ks ns new n are.needs (subst (λ x. IsNeeds o x n) (sym same) needs);
       marks = step_more HasMarks ks ms new m are.marks (subst (λ (x : Clause). IsSought x.literals (BrieflyMarked m)) (sym same) sought);
     })))
   where
     new : Kept
     new = record { entry = record { name = name; clause = d }; row = row }
 
-pub columns_less : (ks ls : List Kept) (ns bs : List Needs) (ms ds : List Brief) (i : ℕ) → AreColumns ks ns ms → ls ≡ remove ks i → bs ≡ remove ns i → ds ≡ remove ms i →
-    AreColumns ls bs ds
-columns_less ks ls ns bs ms ds i are less needed marked =
-    subst (λ x. AreColumns x bs ds) (sym less) (subst (λ y. AreColumns (remove ks i) y ds) (sym needed) (subst (AreColumns (remove ks i) (remove ns i)) (sym marked) (record {
+pub columns_less : (o : Order) (ks ls : List Kept) (ns bs : List Needs) (ms ds : List Brief) (i : ℕ) → AreColumns o ks ns ms → ls ≡ remove ks i → bs ≡ remove ns i → ds ≡ remove ms i →
+    AreColumns o ls bs ds
+columns_less o ks ls ns bs ms ds i are less needed marked =
+    subst (λ x. AreColumns o x bs ds) (sym less) (subst (λ y. AreColumns o (remove ks i) y ds) (sym needed) (subst (AreColumns o (remove ks i) (remove ns i)) (sym marked) (record {
       kept = kept_less ks i are.kept;
-      needs = step_less HasNeeds ks ns i are.needs;
+      needs = step_less (HasNeeds o) ks ns i are.needs;
       marks = step_less HasMarks ks ms i are.marks;
     })))
+
+pub needs_next : (o : Order) (ks : List Kept) (i : ℕ) (k : Kept) (ns bs : List Needs) (n : Needs) → i < length ks → k ≡ get_or ks i k → bs ≡ ns ++ n ∷ [] →
+    AreInStep (HasNeeds o) (entries_of (take i ks)) ns → HasNeeds o k.entry n → AreInStep (HasNeeds o) (entries_of (take (i + 1) ks)) bs
+needs_next o ks i k ns bs n lt at more so_far here =
+    subst (λ xs. AreInStep (HasNeeds o) (entries_of xs) bs) (sym (take_more ks i k lt ∙ ap (λ x. take i ks ++ x ∷ []) (sym at)))
+    (subst (AreInStep (HasNeeds o) (entries_of (take i ks ++ k ∷ []))) (sym more) (step_more (HasNeeds o) (take i ks) ns k n so_far here))
+
+pub needs_all : (o : Order) (ks : List Kept) (i : ℕ) (ns : List Needs) → length ks ≤ i → AreInStep (HasNeeds o) (entries_of (take i ks)) ns →
+    AreInStep (HasNeeds o) (entries_of ks) ns
+needs_all o ks i ns le are = subst (λ xs. AreInStep (HasNeeds o) (entries_of xs) ns) (take_all i ks le) are

@@ -1,12 +1,12 @@
 -- Counts of symbols: there are no fewer in instances, nor in what a term or a clause is part of.
-use Rattle.std.proofs.Common.{◌≡◌, ℕ, ◌+◌, ◌<◌, ◌≤◌, ◌%◌, ◌||◌, max, Bool, true, false, cond, nat_eq, List, [], ◌∷◌, length, map, take, get_or, sum_by, ap, ◌∙◌, arith}
-use Rattle.std.proofs.lemmas.List.{map-append}
-use Rattle.std.proofs.lemmas.List.Sums.{sum-map, sum_by-cons}
+use Rattle.std.proofs.Common.{◌≡◌, ℕ, ◌+◌, ◌<◌, ◌≤◌, ◌%◌, ◌||◌, max, Bool, true, false, cond, nat_eq, List, [], ◌∷◌, length, map, take, get_or, sum_by, ap, sym, ◌∙◌, arith}
+use Rattle.std.proofs.lemmas.List.{map-append, take_all}
+use Rattle.std.proofs.lemmas.List.Sums.{sum-map, sum_by-cons, sum_by_more}
 use Rattle.cd_term.specs.declared.Term.{Term}
 use Rattle.cd_term.specs.declared.Term.TheVariants.{Var, App}
 use Rattle.cd_term.specs.Terms.{greatest, substituted}
 use Rattle.cd_term.proofs.TermInduction.{ind, Each}
-use Rattle.cd_term.proofs.Measures.{greatest-append}
+use Rattle.cd_term.proofs.Measures.{greatest-append, greatest-take}
 use Rattle.cd_term.proofs.Equations.{fold-Var, fold-App, substituted-App}
 use Rattle.cd_clause.specs.declared.Atom.{Atom}
 use Rattle.cd_clause.specs.declared.Atom.TheVariants.{Truth, Pred, Equal}
@@ -149,3 +149,56 @@ at_most h i a b le x y = (
   omega (arith, le 5, x.five, y.five),
   omega (arith, le 6, x.six, y.six),
 )
+
+pub tally_same : (g h : ℕ → ℕ) (t : Tally) → ((k : ℕ) → g k ≡ h k) → IsTally g t → IsTally h t
+tally_same g h t same is = record {
+  all = omega (arith, same 7, is.all);
+  zero = omega (arith, same 0, is.zero);
+  one = omega (arith, same 1, is.one);
+  two = omega (arith, same 2, is.two);
+  three = omega (arith, same 3, is.three);
+  four = omega (arith, same 4, is.four);
+  five = omega (arith, same 5, is.five);
+  six = omega (arith, same 6, is.six);
+}
+
+-- one more item of a list
+pub sum_next : {A : Type 0} (f : ℕ → A → ℕ) (xs : List A) (i : ℕ) (x : A) (a b r : Tally) → i < length xs → x ≡ get_or xs i x →
+    ((g h : ℕ → ℕ) → IsTally g a → IsTally h b → IsTally (λ k. g k + h k) r) → IsTally (λ k. sum_by (f k) (take i xs)) a → IsTally (λ k. f k x) b →
+    IsTally (λ k. sum_by (f k) (take (i + 1) xs)) r
+sum_next f xs i x a b r lt at adds before here =
+    tally_same _ _ r (λ k. omega (arith, sum_by_more (f k) xs i x lt, ap (f k) at)) (adds _ _ before here)
+
+pub sum_behind : (g : ℕ → ℕ) (xs : List Term) (i : ℕ) (x : Term) (a b r : Tally) → i < length xs → x ≡ get_or xs i x →
+    ((g h : ℕ → ℕ) → IsTally g a → IsTally h b → IsTally (λ k. g k + h k) r) → IsTally (λ k. g k + sum_by (count_in k) (take i xs)) a → IsTally (λ k. count_in k x) b →
+    IsTally (λ k. g k + sum_by (count_in k) (take (i + 1) xs)) r
+sum_behind g xs i x a b r lt at adds before here =
+    tally_same _ _ r (λ k. omega (arith, sum_by_more (count_in k) xs i x lt, ap (count_in k) at)) (adds _ _ before here)
+
+pub most_next : (xs : List Term) (i : ℕ) (x : Term) (a b r : Tally) → i < length xs → x ≡ get_or xs i x →
+    ((g h : ℕ → ℕ) → IsTally g a → IsTally h b → IsTally (λ k. max (g k) (h k)) r) → IsTally (λ k. greatest (map (count_in k) (take i xs))) a → IsTally (λ k. count_in k x) b →
+    IsTally (λ k. greatest (map (count_in k) (take (i + 1) xs))) r
+most_next xs i x a b r lt at joins before here =
+    tally_same _ _ r (λ k. omega (arith, greatest-take (count_in k) xs i x lt, ap (count_in k) at)) (joins _ _ before here)
+
+pub most_literal : (ls : List Literal) (i : ℕ) (l : Literal) (a b r : Tally) → i < length ls → l ≡ get_or ls i l →
+    ((g h : ℕ → ℕ) → IsTally g a → IsTally h b → IsTally (λ k. max (g k) (h k)) r) → IsTally (λ k. greatest (map (count_in k) (clause_terms (take i ls)))) a →
+    IsTally (λ k. greatest (map (count_in k) (terms_of l.atom))) b → IsTally (λ k. greatest (map (count_in k) (clause_terms (take (i + 1) ls)))) r
+most_literal ls i l a b r lt at joins before here = tally_same _ _ r (λ k. sym (most_more (count_in k) ls i l lt at)) (joins _ _ before here)
+
+-- a symbol and all its arguments
+pub whole_term : (t : Term) (f : ℕ) (ts xs : List Term) (i : ℕ) (r : Tally) → t ≡ App f ts → xs ≡ ts → length xs ≤ i →
+    IsTally (λ k. symbol_count k f + sum_by (count_in k) (take i xs)) r → IsTally (λ k. count_in k t) r
+whole_term t f ts xs i r is same le all =
+    tally_same _ _ r (λ k. omega (arith, ap (count_in k) is, count-App k f ts, ap (sum_by (count_in k)) (take_all i xs le), ap (sum_by (count_in k)) same)) all
+
+pub whole_predicate : (a : Atom) (p : ℕ) (ts xs : List Term) (r : Tally) → a ≡ Pred p ts → xs ≡ ts → IsTally (λ k. symbol_count k p + sum_by (count_in k) xs) r →
+    IsTally (λ k. atom_count k a) r
+whole_predicate a p ts xs r is same all = tally_same _ _ r (λ k. omega (arith, ap (atom_count k) is, ap (sum_by (count_in k)) same)) all
+
+pub whole_equation : (a : Atom) (s t : Term) (r : Tally) → a ≡ Equal s t → IsTally (λ k. count_in k s + count_in k t) r → IsTally (λ k. atom_count k a) r
+whole_equation a s t r is all = tally_same _ _ r (λ k. omega (arith, ap (atom_count k) is)) all
+
+pub most_equation : (a : Atom) (s t : Term) (r : Tally) → a ≡ Equal s t → IsTally (λ k. max (count_in k s) (count_in k t)) r →
+    IsTally (λ k. greatest (map (count_in k) (terms_of a))) r
+most_equation a s t r is all = tally_same _ _ r (λ k. omega (arith, ap (λ b. greatest (map (count_in k) (terms_of b))) is)) all

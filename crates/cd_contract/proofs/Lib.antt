@@ -12,3 +12,4 @@ pub mod Meeting
 pub mod Needing
 pub mod Columns
 pub mod Skipping
+pub mod Parting

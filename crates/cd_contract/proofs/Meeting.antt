@@ -13,7 +13,7 @@ use Rattle.cd_clause.specs.Clauses.{terms_of, atom_changed}
 use Rattle.cd_subsume.specs.Subsumption.{IsTurned}
 use Rattle.cd_contract.specs.declared.marks.Marks.{Marks}
 use Rattle.cd_contract.specs.Shapes.{mix, part, shape, head_of, literal_shape}
-use Rattle.cd_contract.specs.Marks.{Marked, Keeps, MeetsLiteral, MeetsIn, MeetsAmong, MeetsWhole, IsSought, MarksParts}
+use Rattle.cd_contract.specs.Marks.{Marked, Keeps, Meets, MeetsLiteral, MeetsIn, MeetsAmong, MeetsWhole, IsSought, MarksParts}
 use Rattle.cd_contract.proofs.Shaping.{layers, of_variable, apps_same, nothing_part}
 
 -- ---- what is marked stays so
@@ -72,15 +72,20 @@ meets_variable P t k is star [] u at =
 meets_variable P t k is star (i ∷ path) u at =
     let s = steps_to i path u t at in absurd (Var-App-apart k s.symbol s.args (sym is ∙ s.is))
 
-pub meets_symbol : (m : Marks) (t : Term) (f s : ℕ) (ts xs : List Term) → t ≡ App f ts → xs ≡ ts → s ≡ f → Marked m 0 →
-    MarksParts m s (slice_get xs 0) (slice_get xs 1) → MeetsAmong (Marked m) xs → MeetsIn (Marked m) t
-meets_symbol m t f s ts xs is same symbol star parts met [] u at = record {
-  shapes = λ g p e. elim (layers 2 g f ts t p is (e ∙ sym (same_Some t u at))) [
+-- a term of a symbol, at its own place
+pub meets_here : (m : Marks) (t : Term) (f s : ℕ) (ts xs : List Term) → t ≡ App f ts → xs ≡ ts → s ≡ f → Marked m 0 →
+    MarksParts m s (slice_get xs 0) (slice_get xs 1) → Meets (Marked m) t
+meets_here m t f s ts xs is same symbol star parts = record {
+  shapes = λ g p e. elim (layers 2 g f ts t p is e) [
     | inl none ↦ subst (Marked m) (sym none) star
     | inr l ↦ subst (Marked m) (sym (l.made ∙ ap (λ x. mix x (part (shape 2) l.first) (part (shape 2) l.second)) (sym symbol)))
         (parts g l.first l.second (l.one ∙ ap (λ z. slice_get z 0) (sym same)) (l.other ∙ ap (λ z. slice_get z 1) (sym same)))
   ];
 }
+
+pub meets_symbol : (m : Marks) (t : Term) (f s : ℕ) (ts xs : List Term) → t ≡ App f ts → xs ≡ ts → s ≡ f → Marked m 0 →
+    MarksParts m s (slice_get xs 0) (slice_get xs 1) → MeetsAmong (Marked m) xs → MeetsIn (Marked m) t
+meets_symbol m t f s ts xs is same symbol star parts met [] u at = subst (Meets (Marked m)) (same_Some t u at) (meets_here m t f s ts xs is same symbol star parts)
 meets_symbol m t f s ts xs is same symbol star parts met (i ∷ path) u at =
     let st = steps_to i path u t at in
     let both = apps_same f st.symbol ts st.args (sym is ∙ st.is) in

@@ -33,8 +33,8 @@ first_needed P (l ∷ ls) ms k g picks is are sought =
     let pick = are.each 0 l some.0 refl some.1 in
     subst P (sym is) ((sought.each some.0.place pick.literal pick.place).literal.shapes g l some.0.is_exchanged pick.sign pick.atom)
 
-pub subsumer_needs : (P : ℕ → Type 0) (d c : Clause) (n : Needs) → IsNeeds d n → IsSought c.literals P → Subsumes d c → P n.literal
-subsumer_needs P d c n needs sought by = first_needed P d.literals c.literals n.literal by.0 by.1.0 needs.literal by.1.1 sought
+pub subsumer_needs : (P : ℕ → Type 0) (o : Order) (d c : Clause) (n : Needs) → IsNeeds o d n → IsSought c.literals P → Subsumes d c → P n.literal
+subsumer_needs P o d c n needs sought by = first_needed P d.literals c.literals n.literal by.0 by.1.0 needs.literal by.1.1 sought
 
 -- ---- an equation
 
@@ -46,22 +46,22 @@ old_met : (P : ℕ → Type 0) (o : Order) (d c : Clause) (at : Spot) (g : ℕ �
 old_met P o d c at g by sought =
     subterm_met P at.path (terms_of by.taker.atom) by.old (sought.each at.literal by.taker by.literal).terms (sym (at_atom at.path by.taker.atom) ∙ by.there)
 
-falls_so : (o : Order) (d c : Clause) (at : Spot) (g : ℕ → Term) (by : ReducesBy o d c at g) → Falls o by.lowers.from by.lowers.to g by.old
+pub falls_so : (o : Order) (d c : Clause) (at : Spot) (g : ℕ → Term) (by : ReducesBy o d c at g) → Falls o by.lowers.from by.lowers.to g by.old
 falls_so o d c at g by = (by.lowers.covered, by.lowers.matched, subst (λ u. Greater o by.old u) (sym by.lowers.result) by.lowers.falls)
 
-pub left_needed : (P : ℕ → Type 0) (o : Order) (d c : Clause) (n : Needs) → IsNeeds d n → IsSought c.literals P → (at : Spot) → at.side ≡ 0 → ReducesAt o d c at → P n.left
+pub left_needed : (P : ℕ → Type 0) (o : Order) (d c : Clause) (n : Needs) → IsNeeds o d n → IsSought c.literals P → (at : Spot) → at.side ≡ 0 → ReducesAt o d c at → P n.left
 left_needed P o d c n needs sought at side (g, by) =
     let sides : HasSides 0 by.lowers.rule.equation by.lowers.from by.lowers.to = subst (λ k. HasSides k by.lowers.rule.equation by.lowers.from by.lowers.to) side by.lowers.rule.sides in
-    subst P (sym (needs.left by.lowers.from by.lowers.to (by.lowers.rule.one ∙ ap (λ a. signed true a ∷ []) sides) o g by.old (falls_so o d c at g by)))
+    subst P (sym (needs.left by.lowers.from by.lowers.to (by.lowers.rule.one ∙ ap (λ a. signed true a ∷ []) sides) g by.old (falls_so o d c at g by)))
     ((old_met P o d c at g by sought).shapes g by.lowers.from by.lowers.matched)
 
-pub right_needed : (P : ℕ → Type 0) (o : Order) (d c : Clause) (n : Needs) → IsNeeds d n → IsSought c.literals P → (at : Spot) → at.side ≡ 1 → ReducesAt o d c at → P n.right
+pub right_needed : (P : ℕ → Type 0) (o : Order) (d c : Clause) (n : Needs) → IsNeeds o d n → IsSought c.literals P → (at : Spot) → at.side ≡ 1 → ReducesAt o d c at → P n.right
 right_needed P o d c n needs sought at side (g, by) =
     let sides : HasSides 1 by.lowers.rule.equation by.lowers.from by.lowers.to = subst (λ k. HasSides k by.lowers.rule.equation by.lowers.from by.lowers.to) side by.lowers.rule.sides in
-    subst P (sym (needs.right by.lowers.to by.lowers.from (by.lowers.rule.one ∙ ap (λ a. signed true a ∷ []) sides) o g by.old (falls_so o d c at g by)))
+    subst P (sym (needs.right by.lowers.to by.lowers.from (by.lowers.rule.one ∙ ap (λ a. signed true a ∷ []) sides) g by.old (falls_so o d c at g by)))
     ((old_met P o d c at g by sought).shapes g by.lowers.from by.lowers.matched)
 
-pub reducer_needs : (P : ℕ → Type 0) (o : Order) (d c : Clause) (n : Needs) → IsNeeds d n → IsSought c.literals P → Reduces o d c → P n.left ⊎ P n.right
+pub reducer_needs : (P : ℕ → Type 0) (o : Order) (d c : Clause) (n : Needs) → IsNeeds o d n → IsSought c.literals P → Reduces o d c → P n.left ⊎ P n.right
 reducer_needs P o d c n needs sought (at, red) = from at.side refl (red.1.lowers.rule.sides)
   where
     from : (side : ℕ) → at.side ≡ side → HasSides side red.1.lowers.rule.equation red.1.lowers.from red.1.lowers.to → P n.left ⊎ P n.right
@@ -78,14 +78,14 @@ pub neither : (a b : Bool) (A B : Type 0) → (IsTrue a ↔ A) → (IsTrue b ↔
 neither a b A B one other x y (inl is) = false_test a A one x is
 neither a b A B one other x y (inr is) = false_test b B other y is
 
-pub needs_are : (d : Clause) (s t : Term) (n : Needs) → d.literals ≡ signed true (Equal s t) ∷ [] → IsFirstShape d.literals n.literal → IsSideShape s t n.left →
-    IsSideShape t s n.right → IsNeeds d n
-needs_are d s t n is first left right = record {
+pub needs_are : (o : Order) (d : Clause) (s t : Term) (n : Needs) → d.literals ≡ signed true (Equal s t) ∷ [] → IsFirstShape d.literals n.literal → IsSideShape o s t n.left →
+    IsSideShape o t s n.right → IsNeeds o d n
+needs_are o d s t n is first left right = record {
   literal = first;
-  left = λ u v e o g w falls.
+  left = λ u v e g w falls.
       (let both = atoms_same u v s t (the_atom (Equal u v) (Equal s t) (sym e ∙ is)) in
-      left o g w (subst (λ x. Falls o s x g w) both.1 (subst (λ x. Falls o x v g w) both.0 falls)) ∙ ap (shape 3) (sym both.0));
-  right = λ u v e o g w falls.
+      left g w (subst (λ x. Falls o s x g w) both.1 (subst (λ x. Falls o x v g w) both.0 falls)) ∙ ap (shape 3) (sym both.0));
+  right = λ u v e g w falls.
       (let both = atoms_same u v s t (the_atom (Equal u v) (Equal s t) (sym e ∙ is)) in
-      right o g w (subst (λ x. Falls o t x g w) both.0 (subst (λ x. Falls o x u g w) both.1 falls)) ∙ ap (shape 3) (sym both.1));
+      right g w (subst (λ x. Falls o t x g w) both.0 (subst (λ x. Falls o x u g w) both.1 falls)) ∙ ap (shape 3) (sym both.1));
 }

@@ -6,3 +6,4 @@ pub mod Held
 pub mod Shapes
 pub mod Marks
 pub mod Needs
+pub mod Parts

@@ -12,7 +12,7 @@ use Rattle.cd_clause.specs.Clauses.{terms_of}
 
 -- a number below 4,096 of a symbol and the numbers of its first two arguments
 unfoldable pub mix : ℕ → ℕ → ℕ → ℕ
-mix f a b = (f * 2654435 + a * 40503 + b * 60013) % 1048573 / 256
+mix f a b = (f * 2654435 + a * 40503 + b * 60013) / 256 % 4096
 
 -- the number of an argument that there may be
 abbrev pub part : (Term → ℕ) → Option Term → ℕ

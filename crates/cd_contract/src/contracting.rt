@@ -6,20 +6,21 @@
 
 ghost use Rattle.std.specs.Prelude.{◌≡◌, ◌⊎◌, false, ◌≤◌, ◌<◌, ◌↔◌, ◌∷◌, [], Some, None, List, IsTrue, IfOk, length, slice_index_or};
 ghost use Rattle.std.specs.Option.{option_copied};
+ghost use Rattle.cd_clause.specs.declared.Clause.{Clause};
 ghost use Rattle.cd_clause.specs.Clauses.{IsWithinBounds};
 ghost use Rattle.cd_subsume.specs.Subsumption.{Subsumes};
 ghost use Rattle.cd_rewrite.specs.Reduction.{Spot, ReducesAt};
 ghost use Rattle.cd_contract.specs.declared.held.Entry.{Entry};
 ghost use Rattle.cd_contract.specs.Hits.{Contracting, IsFirstOf, IsForward, IsWay, IsStruckBy, AreStruck, Contracts, IsReducer};
 ghost use Rattle.cd_contract.specs.Rows.{IsRow, IsKept, AreKept, entries_of};
-ghost use Rattle.cd_contract.specs.Marks.{Marked, IsSought};
-ghost use Rattle.cd_contract.specs.Needs.{AreInStep, HasNeeds};
+ghost use Rattle.cd_contract.specs.Needs.{AreInStep, HasNeeds, IsNeeds};
+ghost use Rattle.cd_contract.specs.Parts.{AreSmall, IsSoughtBy};
 
 use crate::held::{Entry, Held, Hit, Hits, Kept, Struck};
-use crate::marks::Marks;
-use crate::needs::Needs;
+use crate::needs::{Needs, next_place};
+use crate::parts::Sought;
 use crate::rows::Row;
-use crate::seeking::marks_of;
+use crate::sides::{are_both, sides_met};
 use cd_clause::Clause;
 use cd_kbo::Order;
 use cd_key::key_cmp;
@@ -39,21 +40,14 @@ fn is_subsumer(alloc: Global, d: &Clause, c: &Clause) -> Result<bool, AllocError
     Ok(true)
 }
 
-/// Whether both tests hold.
-fn are_both(one: bool, other: bool) -> bool
-    ensures { result ≡ false → (one ≡ false) ⊎ (other ≡ false) }
-{
-    one && other
-}
-
-/// Whether a clause makes another one superfluous in a way, where shapes tell from which sides it may reduce. Most
-/// don't by their counts.
+/// Whether a clause makes another one superfluous in a way, given from which sides it may reduce. Most don't by their
+/// counts.
 fn contracts(
     alloc: Global,
     how: How,
     d: &Clause,
     row: &Row,
-    shapes: (bool, bool),
+    sides: (bool, bool),
     c: &Clause,
     sought: &Row,
     order: &Order,
@@ -61,8 +55,8 @@ fn contracts(
     requires clause { IsWithinBounds c.now }
     requires row { IsRow d.now row.now }
     requires sought { IsRow c.now sought.now }
-    requires left { shapes.0 ≡ false → (at : Spot) → at.side ≡ 0 → ¬ ReducesAt order.now d.now c.now at }
-    requires right { shapes.1 ≡ false → (at : Spot) → at.side ≡ 1 → ¬ ReducesAt order.now d.now c.now at }
+    requires left { sides.0 ≡ false → (at : Spot) → at.side ≡ 0 → ¬ ReducesAt order.now d.now c.now at }
+    requires right { sides.1 ≡ false → (at : Spot) → at.side ≡ 1 → ¬ ReducesAt order.now d.now c.now at }
     ensures { IfOk result (λ b. IsTrue b ↔ Contracts order.now how d.now c.now) }
 {
     match how {
@@ -74,7 +68,7 @@ fn contracts(
             Ok(found)
         }
         How::Reduces => {
-            let (left, right) = shapes;
+            let (left, right) = sides;
             let from_left = are_both(left, row.may_reduce_left(sought));
             let from_right = are_both(right, row.may_reduce_right(sought));
             let found = reduces_from(alloc, d, row.variables, from_left, from_right, c, order)?;
@@ -91,18 +85,18 @@ fn is_contracting(
     name: Option<Name>,
     sought: &Row,
     kept: &Kept,
-    shapes: (bool, bool),
+    sides: (bool, bool),
     order: &Order,
 ) -> Result<bool, AllocError>
     requires clause { IsWithinBounds c.now }
     requires sought { IsRow c.now sought.now }
     requires kept { IsKept kept.now }
-    requires left { shapes.0 ≡ false → (at : Spot) → at.side ≡ 0 → ¬ ReducesAt order.now kept.now.entry.clause c.now at }
-    requires right { shapes.1 ≡ false → (at : Spot) → at.side ≡ 1 → ¬ ReducesAt order.now kept.now.entry.clause c.now at }
+    requires left { sides.0 ≡ false → (at : Spot) → at.side ≡ 0 → ¬ ReducesAt order.now kept.now.entry.clause c.now at }
+    requires right { sides.1 ≡ false → (at : Spot) → at.side ≡ 1 → ¬ ReducesAt order.now kept.now.entry.clause c.now at }
     ensures { IfOk result (λ b. IsTrue b ↔ Contracting order.now how c.now name kept.now.entry) }
 {
     let e = &kept.entry;
-    if !contracts(alloc, how, &e.clause, &kept.row, shapes, c, sought, order)? {
+    if !contracts(alloc, how, &e.clause, &kept.row, sides, c, sought, order)? {
         return Ok(false);
     }
     cd_key::laws::bounded_clauses();
@@ -118,6 +112,32 @@ fn kept_at(held: &[Kept], i: usize) -> &Kept
     &held[i]
 }
 
+/// From which of its sides a held clause may make another one superfluous in a way.
+fn sides_of(
+    alloc: Global,
+    how: How,
+    needs: &Needs,
+    kept: &Kept,
+    sought: &Sought,
+    order: &Order,
+) -> Result<(bool, bool), AllocError>
+    requires needs { IsNeeds order.now kept.now.entry.clause needs.now }
+    requires row { IsRow kept.now.entry.clause kept.now.row }
+    requires small { AreSmall sought.now.parts.items }
+    ensures left { IfOk result (λ m. m.0 ≡ false → (c : Clause) → IsSoughtBy c sought.now →
+        (at : Spot) → at.side ≡ 0 → ¬ ReducesAt order.now kept.now.entry.clause c at) }
+    ensures right { IfOk result (λ m. m.1 ≡ false → (c : Clause) → IsSoughtBy c sought.now →
+        (at : Spot) → at.side ≡ 1 → ¬ ReducesAt order.now kept.now.entry.clause c at) }
+{
+    match how {
+        How::Subsumes => Ok((true, true)),
+        How::Reduces => {
+            let met = sides_met(alloc, needs, kept, sought, order)?;
+            Ok(met)
+        }
+    }
+}
+
 /// The first held clause of smaller key that makes a clause superfluous in a way.
 fn first_contracting<'a>(
     alloc: Global,
@@ -126,27 +146,66 @@ fn first_contracting<'a>(
     needs: &[Needs],
     c: &Clause,
     name: Option<Name>,
-    sought: &Row,
-    marks: &Marks,
+    sought: &Sought,
     order: &Order,
 ) -> Result<Option<&'a Entry>, AllocError>
     requires clause { IsWithinBounds c.now }
-    requires sought { IsRow c.now sought.now }
-    requires marks { IsSought c.now.literals (Marked marks.now) }
+    requires sought { IsSoughtBy c.now sought.now }
     requires kept { AreKept held.now }
-    requires needs { AreInStep HasNeeds (entries_of held.now) needs.now }
+    requires needs { AreInStep (HasNeeds order.now) (entries_of held.now) needs.now }
     ensures { IfOk result (λ o. IsFirstOf (Contracting order.now how c.now name) (entries_of held.entry.now) (option_copied o)) }
 {
-    for (i, need) in needs.iter().enumerate() {
-        if !need.may_contract(how, marks) {
-            continue;
-        }
+    let mut i = next_place(how, needs, &sought.marks, 0);
+    while i < needs.len() {
         let kept = kept_at(held, i);
-        let left = need.may_reduce_left(marks);
-        let right = need.may_reduce_right(marks);
-        if is_contracting(alloc, how, c, name, sought, kept, (left, right), order)? {
+        let sides = sides_of(alloc, how, &needs[i], kept, sought, order)?;
+        if is_contracting(alloc, how, c, name, &sought.row, kept, sides, order)? {
             return Ok(Some(&kept.entry));
         }
+        i = next_place(how, needs, &sought.marks, i + 1);
+    }
+    Ok(None)
+}
+
+/// The shapes that each of some held clauses needs by an order.
+fn needs_of(alloc: Global, held: &[Kept], order: &Order) -> Result<Vec<Needs>, AllocError>
+    ensures { IfOk result (λ ns. AreInStep (HasNeeds order.now) (entries_of held.now) ns.items) }
+{
+    let mut needs = Vec::new(alloc);
+    for kept in held {
+        needs.push(Needs::of(&kept.entry.clause, order))?;
+    }
+    Ok(needs)
+}
+
+/// The first clause of smaller key that subsumes a clause, else the first equation of smaller key that reduces it.
+fn forward_among(
+    alloc: Global,
+    kept: &[Kept],
+    needs: &[Needs],
+    c: &Clause,
+    name: Option<Name>,
+    order: &Order,
+) -> Result<Option<Hit>, AllocError>
+    requires clause { IsWithinBounds c.now }
+    requires kept { AreKept kept.now }
+    requires needs { AreInStep (HasNeeds order.now) (entries_of kept.now) needs.now }
+    ensures { IfOk result (IsForward order.now c.now name (entries_of kept.now)) }
+{
+    let sought = Sought::of(alloc, c)?;
+    let found = first_contracting(alloc, How::Subsumes, kept, needs, c, name, &sought, order)?;
+    if let Some(e) = found {
+        return Ok(Some(Hit {
+            by: e.name,
+            how: How::Subsumes,
+        }));
+    }
+    let found = first_contracting(alloc, How::Reduces, kept, needs, c, name, &sought, order)?;
+    if let Some(e) = found {
+        return Ok(Some(Hit {
+            by: e.name,
+            how: How::Reduces,
+        }));
     }
     Ok(None)
 }
@@ -164,44 +223,35 @@ pub fn forward(
     ensures { IfOk result (IsForward order.now c.now name held.now) }
 {
     let kept = held.kept();
-    let needs = held.needs();
-    let sought = Row::of(c);
-    let marks = marks_of(c);
-    let found = first_contracting(
-        alloc,
-        How::Subsumes,
-        kept,
-        needs,
-        c,
-        name,
-        &sought,
-        &marks,
-        order,
-    )?;
-    if let Some(e) = found {
-        return Ok(Some(Hit {
-            by: e.name,
-            how: How::Subsumes,
-        }));
+    if let Some(needs) = held.needs(order) {
+        let hit = forward_among(alloc, kept, needs, c, name, order)?;
+        return Ok(hit);
     }
-    let found = first_contracting(
-        alloc,
-        How::Reduces,
-        kept,
-        needs,
-        c,
-        name,
-        &sought,
-        &marks,
-        order,
-    )?;
-    if let Some(e) = found {
-        return Ok(Some(Hit {
-            by: e.name,
-            how: How::Reduces,
-        }));
-    }
-    Ok(None)
+    let needs = needs_of(alloc, kept, order)?;
+    let hit = forward_among(alloc, kept, needs.as_slice(), c, name, order)?;
+    Ok(hit)
+}
+
+/// The first equation of smaller key that reduces a clause.
+fn reducer_among(
+    alloc: Global,
+    kept: &[Kept],
+    needs: &[Needs],
+    c: &Clause,
+    name: Option<Name>,
+    order: &Order,
+) -> Result<Option<Name>, AllocError>
+    requires clause { IsWithinBounds c.now }
+    requires kept { AreKept kept.now }
+    requires needs { AreInStep (HasNeeds order.now) (entries_of kept.now) needs.now }
+    ensures { IfOk result (λ o. IsReducer order.now c.now name (entries_of kept.now) o) }
+{
+    let sought = Sought::of(alloc, c)?;
+    let found = first_contracting(alloc, How::Reduces, kept, needs, c, name, &sought, order)?;
+    let Some(e) = found else {
+        return Ok(None);
+    };
+    Ok(Some(e.name))
 }
 
 /// The first held equation of smaller key that reduces a clause, or `None` exactly where there is none.
@@ -215,30 +265,22 @@ pub fn reducer(
     requires { IsWithinBounds c.now }
     ensures { IfOk result (λ o. IsReducer order.now c.now name held.now o) }
 {
-    let sought = Row::of(c);
-    let marks = marks_of(c);
-    let found = first_contracting(
-        alloc,
-        How::Reduces,
-        held.kept(),
-        held.needs(),
-        c,
-        name,
-        &sought,
-        &marks,
-        order,
-    )?;
-    let Some(e) = found else {
-        return Ok(None);
-    };
-    Ok(Some(e.name))
+    let kept = held.kept();
+    if let Some(needs) = held.needs(order) {
+        let by = reducer_among(alloc, kept, needs, c, name, order)?;
+        return Ok(by);
+    }
+    let needs = needs_of(alloc, kept, order)?;
+    let by = reducer_among(alloc, kept, needs.as_slice(), c, name, order)?;
+    Ok(by)
 }
 
-/// How a clause makes another one superfluous, if it does.
+/// How a clause makes another one superfluous, if it does, given from which sides it may reduce.
 fn way_of(
     alloc: Global,
     d: &Clause,
     row: &Row,
+    sides: (bool, bool),
     c: &Clause,
     sought: &Row,
     order: &Order,
@@ -246,12 +288,14 @@ fn way_of(
     requires clause { IsWithinBounds c.now }
     requires row { IsRow d.now row.now }
     requires sought { IsRow c.now sought.now }
+    requires left { sides.0 ≡ false → (at : Spot) → at.side ≡ 0 → ¬ ReducesAt order.now d.now c.now at }
+    requires right { sides.1 ≡ false → (at : Spot) → at.side ≡ 1 → ¬ ReducesAt order.now d.now c.now at }
     ensures { IfOk result (IsWay order.now d.now c.now) }
 {
-    if contracts(alloc, How::Subsumes, d, row, (true, true), c, sought, order)? {
+    if contracts(alloc, How::Subsumes, d, row, sides, c, sought, order)? {
         return Ok(Some(How::Subsumes));
     }
-    if contracts(alloc, How::Reduces, d, row, (true, true), c, sought, order)? {
+    if contracts(alloc, How::Reduces, d, row, sides, c, sought, order)? {
         return Ok(Some(How::Reduces));
     }
     Ok(None)
@@ -263,16 +307,19 @@ fn strikes(
     d: &Clause,
     name: Name,
     row: &Row,
+    sides: (bool, bool),
     kept: &Kept,
     order: &Order,
 ) -> Result<Option<How>, AllocError>
     requires clause { IsWithinBounds d.now }
     requires row { IsRow d.now row.now }
     requires kept { IsKept kept.now }
+    requires left { sides.0 ≡ false → (at : Spot) → at.side ≡ 0 → ¬ ReducesAt order.now d.now kept.now.entry.clause at }
+    requires right { sides.1 ≡ false → (at : Spot) → at.side ≡ 1 → ¬ ReducesAt order.now d.now kept.now.entry.clause at }
     ensures { IfOk result (IsStruckBy order.now d.now name kept.now.entry) }
 {
     let e = &kept.entry;
-    let Some(how) = way_of(alloc, d, row, &e.clause, &kept.row, order)? else {
+    let Some(how) = way_of(alloc, d, row, sides, &e.clause, &kept.row, order)? else {
         return Ok(None);
     };
     cd_key::laws::bounded_clauses();
@@ -294,7 +341,7 @@ pub fn backward(
     ensures { IfOk result (AreStruck order.now d.now name held.now) }
 {
     let row = Row::of(d);
-    let needs = Needs::of(d);
+    let needs = Needs::of(d, order);
     let all = held.kept();
     let mut hits = Hits::new(alloc);
     for (i, marks) in held.marks().iter().enumerate() {
@@ -302,7 +349,8 @@ pub fn backward(
             continue;
         }
         let kept = kept_at(all, i);
-        let Some(how) = strikes(alloc, d, name, &row, kept, order)? else {
+        let sides = needs.strike_sides(marks);
+        let Some(how) = strikes(alloc, d, name, &row, sides, kept, order)? else {
             continue;
         };
         hits.push(Struck {

@@ -1,7 +1,7 @@
 //! The clauses that a peer holds.
 #![tactic(auto)]
 
-ghost use Rattle.std.specs.Prelude.{◌≡◌, ◌∷◌, ◌++◌, [], length, slice_get, OnOk, OnErr, MatchOption};
+ghost use Rattle.std.specs.Prelude.{◌≡◌, ◌∷◌, ◌++◌, [], length, slice_get, OnOk, OnErr, IfSome, MatchOption};
 ghost use Rattle.std.specs.Option.{option_copied};
 ghost use Rattle.std.specs.List.{find};
 ghost use Rattle.cd_clause.specs.Clauses.{IsWithinBounds};
@@ -15,7 +15,8 @@ use crate::needs::Needs;
 use crate::rows::Row;
 use crate::seeking::marks_of;
 use cd_clause::Clause;
-use cd_list::{Copied, Sequence};
+use cd_kbo::Order;
+use cd_list::{Copied, Equals, Sequence};
 use cd_names::{How, Name};
 use std::alloc::{AllocError, Global};
 use std::marker::Model;
@@ -38,12 +39,15 @@ pub struct Kept {
 ///
 /// Beside each clause stand the shapes that it needs in what it makes superfluous, and marks of its own shapes, each in
 /// a column of its own: few bytes of a clause are looked at in a search, and few clauses besides. Of these most are
-/// passed over by the counts of their symbols.
+/// passed over by the counts of their symbols. Which side of an equation may lower a term depends on the order of terms,
+/// and the column of needs is for the plain one; a search by another order makes a column of its own first.
 #[derive(Debug, Drop)]
 pub struct Held {
     kept: Vec<Kept>,
+    /// By `order`.
     needs: Vec<Needs>,
     marks: Vec<Brief>,
+    order: Order,
 }
 
 impl Model for Held {
@@ -62,7 +66,7 @@ impl Model for Held {
 
     ghost view = { λ it. entries_of it.kept.items };
 
-    ghost invariant = { λ it. AreColumns it.kept.items it.needs.items it.marks.items };
+    ghost invariant = { λ it. AreColumns it.order it.kept.items it.needs.items it.marks.items };
 }
 
 /// What makes a clause superfluous, and how.
@@ -102,6 +106,7 @@ impl Held {
             kept: Vec::new(alloc),
             needs: Vec::new(alloc),
             marks: Vec::new(alloc),
+            order: Order::plain(alloc),
         }
     }
 
@@ -138,7 +143,7 @@ impl Held {
         ensures err { OnErr result (self.new ≡ self.old) }
     {
         let row = Row::of(clause);
-        let needs = Needs::of(clause);
+        let needs = Needs::of(clause, &self.order);
         let marks = marks_of(clause).brief();
         let clause = clause.copy(alloc)?;
         self.needs.reserve(1)?;
@@ -174,11 +179,14 @@ impl Held {
         self.kept.as_slice()
     }
 
-    /// The shapes that each of the entries needs.
-    pub fn needs(&self) -> &[Needs]
-        ensures { AreInStep HasNeeds self.now result.now }
+    /// The shapes that each of the entries needs by an order, or `None` where the column is for another order.
+    pub fn needs(&self, order: &Order) -> Option<&[Needs]>
+        ensures { IfSome result (λ needs. AreInStep (HasNeeds order.now) self.now needs.now) }
     {
-        self.needs.as_slice()
+        if !self.order.equals(order) {
+            return None;
+        }
+        Some(self.needs.as_slice())
     }
 
     /// The marks of each of the entries.

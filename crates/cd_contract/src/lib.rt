@@ -6,9 +6,11 @@ mod held;
 pub mod laws;
 mod marks;
 mod needs;
+mod parts;
 mod rows;
 mod seeking;
 mod shapes;
+mod sides;
 mod tally;
 
 pub use contracting::{backward, forward, reducer};

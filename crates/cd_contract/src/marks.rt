@@ -47,13 +47,18 @@ impl Marks {
         is_marked && k < 4096
     }
 
-    /// Marks what a symbol makes of a number and each of others.
+    /// Marks what a symbol makes of a number and each of others, of which many are the same as the one before.
     fn mark_row(&mut self, symbol: u32, x: u16, ys: &[u16; 5])
         ensures kept { Keeps self.old self.new }
         ensures row { MarksRow self.new (mix symbol x) ys.now }
     {
+        let mut last = None;
         for y in ys {
+            if last == Some(*y) {
+                continue;
+            }
             self.mark(mixed(symbol, x, *y));
+            last = Some(*y);
         }
     }
 
@@ -62,8 +67,13 @@ impl Marks {
         ensures kept { Keeps self.old self.new }
         ensures grid { MarksGrid self.new (mix symbol) xs.now ys.now }
     {
+        let mut last = None;
         for x in xs {
+            if last == Some(*x) {
+                continue;
+            }
             self.mark_row(symbol, *x, ys);
+            last = Some(*x);
         }
     }
 

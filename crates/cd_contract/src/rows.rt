@@ -8,7 +8,7 @@ ghost use Rattle.cd_subsume.specs.Subsumption.{Subsumes};
 ghost use Rattle.cd_rewrite.specs.Reduction.{Spot, ReducesAt};
 ghost use Rattle.cd_contract.specs.Rows.{IsRow, IsSideOf, AreSides, IsSideAtMost};
 
-use crate::tally::Tally;
+use crate::tally::{Tally, of_literals, of_term, of_terms};
 use cd_clause::{Clause, variables};
 use cd_rewrite::{has_variables_of, sides_of_one};
 use cd_term::Term;
@@ -42,7 +42,7 @@ fn side(from: &Term, to: &Term) -> Option<Tally>
     if !has_variables_of(from, to) {
         return None;
     }
-    Some(Tally::of_term(from))
+    Some(of_term(from))
 }
 
 /// The counts of the sides of the equation that a clause may be.
@@ -62,9 +62,9 @@ impl Row {
         let (left, right) = sides(d);
         Row {
             variables: variables(d),
-            positive: Tally::of_literals(d, true),
-            negative: Tally::of_literals(d, false),
-            terms: Tally::of_terms(d),
+            positive: of_literals(d, true),
+            negative: of_literals(d, false),
+            terms: of_terms(d),
             left,
             right,
         }

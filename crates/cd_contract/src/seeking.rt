@@ -10,7 +10,7 @@ use cd_clause::{Atom, Clause, Literal};
 use cd_term::Term;
 
 /// Marks what a symbol makes of all that its arguments are instances of.
-fn mark_parts(marks: &mut Marks, symbol: u32, args: &[Term])
+pub fn mark_parts(marks: &mut Marks, symbol: u32, args: &[Term])
     ensures kept { Keeps marks.old marks.new }
     ensures parts { MarksParts marks.new symbol (slice_get args.now 0) (slice_get args.now 1) }
 {

@@ -15,7 +15,7 @@ pub fn mixed(symbol: u32, first: u16, second: u16) -> u16
     ensures below { result < 4096 }
 {
     let sum = u64::from(symbol) * 2654435 + u64::from(first) * 40503 + u64::from(second) * 60013;
-    (sum % 1048573 / 256) as u16
+    (sum / 256 % 4096) as u16
 }
 
 /// The argument in a place, if there is one.

@@ -33,8 +33,7 @@ fn is_lighter(t: &Term, to: &Term, order: &Order) -> bool
     false
 }
 
-/// Whether a term is an instance of a side that is greater than the same instance of the other side. Most don't come
-/// here, so it stands apart from the walk.
+/// The same of a term that may be an instance by its symbols. Most don't come here, so it stands apart from the walk.
 #[inline(never)]
 fn is_greater(
     alloc: Global,
@@ -58,8 +57,9 @@ fn is_greater(
     Ok(true)
 }
 
-/// The same. Most terms are refused by their symbols.
-fn falls_at(
+/// Whether a term is an instance of a side that is greater than the same instance of the other side. Most terms are
+/// refused by their symbols.
+pub fn falls_at(
     alloc: Global,
     from: &Term,
     to: &Term,

@@ -11,5 +11,6 @@ mod reducing;
 mod rewriting;
 mod walks;
 
-pub use equations::{has_variables_of, may_lower, sides_of_one};
+pub use equations::{has_variables_of, is_falling, may_lower, sides_of_one};
+pub use falling::falls_at;
 pub use reducing::{ReductAt, reduces, reduces_from, reduct};

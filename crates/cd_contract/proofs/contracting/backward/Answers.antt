@@ -1,6 +1,6 @@
 use Rattle.cd_contract.specs.Rows.{IsKept}
 use Rattle.cd_contract.proofs.Hitting.{collects_none, collects_one, collects_end, all_read}
-use Rattle.cd_contract.proofs.Skipping.{collects_skip, marked_within, all_marked}
+use Rattle.cd_contract.proofs.Skipping.{collects_skip, marked_within, marked_beside, all_marked}
 use Rattle.cd_contract.proofs.contracting.backward.Goals as goal
 
 pub loop-i-preserved-then-not-may_strike : goal.loop-i-preserved-then-not-may_strike
@@ -36,3 +36,15 @@ returns c =
     collects_end c.args.order.now c.args.d.now c.args.name c.kept-all.result.now c.args.held.now c.loop-i.i c.loop-i.hits c.kept-all.ensures.entries
     (all_marked c.kept-all.result.now c.args.held.now c.marks-marks-items.result.now c.loop-i.i c.kept-all.ensures.entries c.marks-marks-items.ensures c.loop-i-test.false)
     c.loop-i.invariant
+
+pub strikes-requires-clause-left : goal.strikes-requires-clause-left
+strikes-requires-clause-left c = λ out.
+    c.strike_sides-sides.ensures.left out c.args.order.now c.args.d.now c.kept_at-kept.result.now.entry.clause c.of-needs.ensures
+    (marked_beside c.kept-all.result.now c.args.held.now c.marks-marks-items.result.now c.loop-i.i c.kept_at-kept.result.now _ c.kept-all.ensures.entries c.marks-marks-items.ensures
+    c.loop-i-test.true c.kept_at-kept.ensures)
+
+pub strikes-requires-clause-right : goal.strikes-requires-clause-right
+strikes-requires-clause-right c = λ out.
+    c.strike_sides-sides.ensures.right out c.args.order.now c.args.d.now c.kept_at-kept.result.now.entry.clause c.of-needs.ensures
+    (marked_beside c.kept-all.result.now c.args.held.now c.marks-marks-items.result.now c.loop-i.i c.kept_at-kept.result.now _ c.kept-all.ensures.entries c.marks-marks-items.ensures
+    c.loop-i-test.true c.kept_at-kept.ensures)

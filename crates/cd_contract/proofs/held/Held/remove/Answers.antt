@@ -8,7 +8,7 @@ pub remove-requires : goal.remove-requires
 remove-requires c = omega (
   arith,
   place_within c.args.name c.self.inside.kept.items _ c.in-Some.place c.as_slice.ensures.value c.in-Some.ensures,
-  step_length HasNeeds c.self.inside.kept.items c.self.inside.needs.items c.self.invariant.needs,
+  step_length (HasNeeds c.self.inside.order) c.self.inside.kept.items c.self.inside.needs.items c.self.invariant.needs,
 )
 
 pub remove-requires-2 : goal.remove-requires-2
@@ -20,7 +20,7 @@ remove-requires-2 c = omega (
 
 pub invariant_of-self : goal.invariant_of-self
 invariant_of-self c =
-    columns_less c.self.inside.kept.items _ c.self.inside.needs.items _ c.self.inside.marks.items _ c.in-Some.place c.self.invariant c.remove-kept.ensures.items
+    columns_less c.self.inside.order c.self.inside.kept.items _ c.self.inside.needs.items _ c.self.inside.marks.items _ c.in-Some.place c.self.invariant c.remove-kept.ensures.items
     c.remove.ensures.items c.remove-2.ensures.items
 
 pub returns-clause-entry : goal.returns-clause-entry
