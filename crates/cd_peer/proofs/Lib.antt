@@ -4,3 +4,4 @@ pub mod Stamps
 pub mod Whole
 pub mod Shares
 pub mod Outlook
+pub mod Crossing

@@ -261,3 +261,10 @@ impl<'p> Peer<'p> {
         state
     }
 }
+
+fn moves<T: Send>(_value: &T) {}
+
+// Peers may move between threads.
+fn cross<'p>(peer: &Peer<'p>) {
+    moves(peer);
+}
