@@ -1,0 +1,6 @@
+pub mod Searching
+pub mod Living
+pub mod Moving
+pub mod Choosing
+pub mod Frames
+pub mod Runs

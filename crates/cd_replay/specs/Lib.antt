@@ -1,0 +1,4 @@
+pub mod Replays
+pub mod Replayed
+pub mod Prospects
+pub mod Ends
